@@ -1,0 +1,5 @@
+pub mod Cancel
+pub mod Folds
+pub mod KarpRabinLaws
+pub mod LineColumnLaws
+pub mod Values
