@@ -12,6 +12,7 @@ use residue::negate;
 const P: u32 = 2147483647;
 // The base, and its inverse modulo p.
 const BASE: u32 = 16807;
+
 const BASE_INVERSE: u32 = 1407677000;
 
 pub impl Monoid for KarpRabin as KarpRabinMonoid {

@@ -1,0 +1,9 @@
+pub mod Matrix
+pub mod Bits
+pub mod Values
+pub mod Whole
+pub mod Slips
+pub mod Peeling
+pub mod Windows
+pub mod Figures
+pub mod Written
