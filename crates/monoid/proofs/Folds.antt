@@ -32,6 +32,9 @@ module _ {V R : Type 0} (m : Model V R) where
     pub fold-append : (u v : List ℕ) → fold-of m (u ++ v) ≡ m .joined (fold-of m u) (fold-of m v)
     fold-append u v = fold-onto (m .empty) u v ∙ fold-joined (fold-of m u) v
 
+    pub joined-folds : {x y r : V} (u v : List ℕ) → x ≡ fold-of m u → y ≡ fold-of m v → r ≡ m .joined x y → r ≡ fold-of m (u ++ v)
+    joined-folds {x} {y} {r} u v ex ey er = er ∙ ap (λ z. m .joined z y) ex ∙ ap (m .joined (fold-of m u)) ey ∙ sym (fold-append u v)
+
 pub all-bytes-append : (u v : List ℕ) → all-bytes u ≡ true → all-bytes v ≡ true → all-bytes (u ++ v) ≡ true
 all-bytes-append [] v hu hv = hv
 all-bytes-append (k ∷ u) v hu hv = grind (arith, tells, all-bytes-append u v)
