@@ -5,7 +5,6 @@ use Prim.Native.Nat.{ℕ, _-_, _^_, min}
 use lib.ListN.{length}
 use Rattle.monoid.specs.Monoid.{fold-of}
 use Rattle.monoid.specs.LineColumnValues.{line-column}
-use Rattle.monoid.specs.Pair.{pair-model}
 use Rattle.zemor.specs.Values.{sl2}
 use Rattle.fingerprint.specs.declared.stream.Stream.{Stream}
 

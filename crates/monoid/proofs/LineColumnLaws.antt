@@ -1,13 +1,13 @@
 -- The laws of line-column.
-use mathlib.Core.Path.{_≡_, refl, sym, ap, _∙_}
+use mathlib.Core.Path.{_≡_}
 use mathlib.Core.HLevel.{×-prop}
-use mathlib.Core.Bool.{Bool, true, false, cond}
-use Prim.Native.Nat.{ℕ, _+_, _-_, _^_, _<_, min}
+use mathlib.Core.Bool.{cond}
+use Prim.Native.Nat.{ℕ, _-_, _^_, _<_}
 use native.Mathlib.Bridge.{le-prop}
 use native.Mathlib.Omega.{arith}
-use lib.Dec.{ltb, eqb}
+use lib.Dec.{ltb}
 use Rattle.std.proofs.shelf.Ways.{tells}
-use Rattle.monoid.specs.Monoid.{Lawful, checked}
+use Rattle.monoid.specs.Monoid.{Lawful}
 use Rattle.monoid.specs.LineColumn.{capped, lines-columns}
 use Rattle.monoid.specs.LineColumnValues.{Valid, value, row, valid?, empty, line-column}
 use Rattle.monoid.specs.declared.line_column.LineColumn.{LineColumn}

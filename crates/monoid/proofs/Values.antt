@@ -1,5 +1,5 @@
 -- Values that are rows under a condition that has one proof: equal rows are equal values.
-use mathlib.Core.Path.{_≡_, refl, sym}
+use mathlib.Core.Path.{_≡_, refl}
 use mathlib.Core.HLevel.{isProp→PathP}
 use Rattle.monoid.specs.Monoid.{checked}
 

@@ -1,7 +1,7 @@
 -- The values of Karp and Rabin's fingerprint are the rows with each number below p, and w × v equal to 1 modulo p.
-use mathlib.Core.Path.{_≡_, refl, ap, _∙_}
+use mathlib.Core.Path.{refl, ap, _∙_}
 use mathlib.Core.Logic.{Dec·and}
-use Prim.Native.Nat.{ℕ, _+_, _*_, _%_, _<_}
+use Prim.Native.Nat.{_+_, _*_, _%_, _<_}
 use native.Mathlib.Decide.{decLt, ℕ-discrete}
 use native.Mathlib.Nat.{mul-comm}
 use lib.Dec.{lit<}

@@ -1,6 +1,6 @@
 -- Lines and columns: how many newlines a text has, and how many bytes stand after the last of them.
 use mathlib.Core.Bool.{cond}
-use Prim.Native.Nat.{ℕ, _+_, _-_, _^_, _<_, min}
+use Prim.Native.Nat.{ℕ, _+_, _-_, _^_, min}
 use lib.Dec.{ltb, eqb}
 use Rattle.monoid.specs.declared.line_column.LineColumnRow.{LineColumnRow}
 

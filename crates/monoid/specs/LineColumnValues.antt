@@ -1,5 +1,4 @@
 -- The values of line-column are the rows whose numbers fit 32 bits.
-use mathlib.Core.Path.{_≡_}
 use mathlib.Core.Bool.{Bool, true, false, cond}
 use mathlib.Core.Logic.{Dec·and}
 use Prim.Native.Nat.{ℕ, _^_, _<_}

@@ -1,7 +1,7 @@
 -- Reckoning modulo m: two numbers agree when their remainders are equal.
 use mathlib.Core.Path.{_≡_, refl, sym, ap, _∙_}
-use Prim.Native.Nat.{ℕ, _+_, _*_, _-_, _%_, _/_, _<_, _≤_}
-use native.Mathlib.Nat.{mod-add-mod, add-mod-mod, mod-mod, mod-add-div, add-mul-mod-self-left, mul-mod-right, mod-eq-of-lt}
+use Prim.Native.Nat.{ℕ, _+_, _*_, _-_, _%_, _/_, _<_}
+use native.Mathlib.Nat.{mod-add-mod, add-mod-mod, mod-mod, mod-add-div, add-mul-mod-self-left}
 use native.Mathlib.Omega.{arith}
 
 module _ (m : ℕ) where

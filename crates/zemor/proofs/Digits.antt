@@ -1,8 +1,8 @@
 -- The n lowest digits of a number in a base.
 use mathlib.Core.Path.{_≡_, refl, sym, ap, _∙_}
 use mathlib.Core.List.{List, [], _∷_, _++_}
-use Prim.Native.Nat.{ℕ, zero, suc, _+_, _*_, _/_, _%_, _^_, _≤_, _<_}
-use native.Mathlib.Nat.{pow-suc, pow-zero, pow-le-pow-right, div-div-eq-div-mul, div-one, mod-one, zero-add, suc-add, mul-comm, add-mul-div-left, add-mul-mod-self-left, mul-add-div-right, mod-lt, mod-add-div, mod-eq-of-lt, div-eq-of-lt, add-zero, lt-of-lt-of-le}
+use Prim.Native.Nat.{ℕ, zero, suc, _+_, _*_, _/_, _%_, _^_, _<_}
+use native.Mathlib.Nat.{pow-suc, pow-zero, pow-le-pow-right, div-div-eq-div-mul, div-one, mod-one, zero-add, suc-add, mul-comm, add-mul-div-left, add-mul-mod-self-left, mul-add-div-right, mod-add-div, mod-eq-of-lt, div-eq-of-lt, add-zero, lt-of-lt-of-le}
 use native.Mathlib.Omega.{arith}
 use lib.Arith.{mod-mul}
 use lib.Pow.{pow-add}

@@ -1,5 +1,5 @@
 -- The laws of the product and the inverse.
-use mathlib.Core.Path.{_≡_, refl, sym, ap, _∙_}
+use mathlib.Core.Path.{_≡_, ap, _∙_}
 use mathlib.Core.HLevel.{×-prop}
 use Prim.Native.Nat.{ℕ, _+_, _*_, _%_, _<_}
 use native.Mathlib.Nat.{ℕ-set, mod-eq-of-lt}

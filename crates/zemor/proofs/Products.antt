@@ -1,7 +1,7 @@
 -- Products of bits: their first bit, that they tell their string, how large they are, and what they are modulo p.
 use mathlib.Core.Path.{_≡_, refl, sym, ap, _∙_}
-use mathlib.Core.List.{List, [], _∷_, _++_}
-use mathlib.Core.Logic.{_⊎_, inl, inr}
+use mathlib.Core.List.{List, [], _∷_}
+use mathlib.Core.Logic.{_⊎_}
 use mathlib.Core.Bool.{Bool, true, false}
 use Prim.Native.Nat.{ℕ, zero, suc, _+_, _-_, _*_, _%_, _≤_, _<_}
 use native.Mathlib.Nat.{le-refl, le-trans, mod-eq-of-lt, mod-mod, zero-add}
@@ -15,7 +15,7 @@ use Rattle.residue.proofs.Modulo.{dot, same-add, same-mul}
 use Rattle.std.specs.declared.option.Option.the-variants.{Some, None}
 use Rattle.zemor.specs.Matrix.{identity, bit, matrix}
 use Rattle.zemor.specs.Bits.{product-of}
-use Rattle.zemor.specs.Whole.{whole, whole-times, fib, Bounded, Apart, Edge}
+use Rattle.zemor.specs.Whole.{whole, whole-times, fib, Bounded, Edge}
 use Rattle.zemor.specs.Peeling.{First}
 use Rattle.zemor.specs.declared.matrix.Entries.{Entries}
 use Rattle.zemor.proofs.Laws.{four}

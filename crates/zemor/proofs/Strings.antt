@@ -2,7 +2,7 @@
 use mathlib.Core.Path.{_≡_, refl, sym, ap, _∙_, subst}
 use mathlib.Core.List.{List, [], _∷_, _++_, append-assoc, map}
 use mathlib.Core.Bool.{Bool, true, false, cond}
-use Prim.Native.Nat.{ℕ, zero, suc, _+_, _*_, _^_, _≤_, _<_}
+use Prim.Native.Nat.{ℕ, suc, _+_, _*_, _^_, _≤_, _<_}
 use native.Mathlib.Omega.{arith}
 use native.Mathlib.Numerals.{add-one}
 use native.Mathlib.Nat.{lt-of-lt-of-le, pow-suc}
@@ -12,7 +12,7 @@ use Rattle.std.proofs.shelf.Lists.{length-map, map-append}
 use Rattle.std.specs.declared.option.Option.{Option}
 use Rattle.std.specs.declared.option.Option.the-variants.{Some, None}
 use Rattle.zemor.specs.Matrix.{identity, bit}
-use Rattle.zemor.specs.Bits.{digits-in, bits-in, is-one, product-of}
+use Rattle.zemor.specs.Bits.{digits-in, bits-in, is-one}
 use Rattle.zemor.specs.Values.{row}
 use Rattle.zemor.specs.Whole.{whole, whole-times}
 use Rattle.zemor.specs.Peeling.{First, Peels, Tells, spelled}

@@ -1,10 +1,10 @@
 -- The table of the byte matrices: a list that is computed from its rule, which holds at each of its places.
-use mathlib.Core.Path.{_≡_, refl, ap, sym, _∙_}
+use mathlib.Core.Path.{_≡_, ap, sym, _∙_}
 use mathlib.Core.List.{List, [], _∷_}
 use Prim.Native.Nat.{ℕ, zero, suc, _+_, _*_, _/_, _%_, _<_}
 use native.Mathlib.Nat.{zero-add}
 use native.Mathlib.Omega.{arith}
-use lib.ListN.{length, getD}
+use lib.ListN.{getD}
 use Rattle.zemor.specs.Matrix.{entry}
 use Rattle.zemor.specs.Bits.{byte-product}
 

@@ -1,26 +1,23 @@
 -- The fold of a text's bytes is the product of its bits, different texts have different bits, and slips always show.
 use mathlib.Core.Path.{_≡_, refl, sym, ap, _∙_}
 use mathlib.Core.List.{List, [], _∷_, _++_, map}
-use mathlib.Core.Bool.{Bool, true, false, cond, _&&_}
+use mathlib.Core.Bool.{Bool, true, cond}
 use Prim.Native.Nat.{ℕ, zero, suc, _+_, _*_, _/_, _%_, _^_, _≤_, _<_}
 use native.Mathlib.Nat.{mod-eq-of-lt}
 use native.Mathlib.Omega.{arith}
-use lib.Dec.{ltb, eqb}
-use lib.ListN.{length, length-append, take, drop}
+use lib.ListN.{length, take, drop}
 use Rattle.std.specs.shelf.Digits.{number}
 use Rattle.std.proofs.shelf.Ways.{tells as by-tests}
 use Rattle.monoid.specs.Monoid.{fold-of, fold-from, all-bytes}
 use Rattle.monoid.proofs.Cancel.{cancel}
-use Rattle.monoid.proofs.Folds.{fold-append}
 use Rattle.zemor.specs.Matrix.{times, bit}
 use Rattle.zemor.specs.Bits.{digits-in, bits-in, is-one, text-bits, product-of, byte-product}
 use Rattle.zemor.specs.Values.{sl2, row, one, value, product-valid, inverse-of}
-use Rattle.zemor.specs.Slips.{Slip, SlipsShow}
+use Rattle.zemor.specs.Slips.{SlipsShow}
 use Rattle.zemor.specs.declared.matrix.Sl2.{Sl2}
-use Rattle.zemor.proofs.Digits.{number-digits, length-digits}
+use Rattle.zemor.proofs.Digits.{number-digits}
 use Rattle.zemor.proofs.Laws.{same, lawful, inverts, times-assoc}
 use Rattle.zemor.proofs.Products.{tells, product-whole}
-use Rattle.zemor.proofs.Strings.{length-bits}
 
 -- the value of a string of bits
 pub product-value : List Bool → Sl2

@@ -1,12 +1,12 @@
 -- Strings of bits cut into bytes, and reading a window back.
 use mathlib.Core.Path.{_≡_, refl, sym, ap, _∙_}
-use mathlib.Core.List.{List, [], _∷_, _++_, map}
-use mathlib.Core.Bool.{Bool, true, _&&_}
+use mathlib.Core.List.{List, _∷_, _++_, map}
+use mathlib.Core.Bool.{true}
 use Prim.Native.Nat.{ℕ, zero, suc, _+_, _*_, _/_, _%_, _^_, _≤_, _<_}
 use native.Mathlib.Nat.{mod-lt, pow-suc}
 use native.Mathlib.Omega.{arith}
 use lib.Pow.{pow-add}
-use lib.Dec.{lit<, ltb}
+use lib.Dec.{lit<}
 use lib.ListN.{length}
 use Rattle.std.proofs.shelf.Lists.{map-append}
 use Rattle.std.proofs.shelf.Ways.{tells as by-tests}
@@ -16,7 +16,7 @@ use Rattle.monoid.specs.Monoid.{fold-of, all-bytes}
 use Rattle.zemor.specs.Bits.{digits-in, bits-in, is-one, text-bits, product-of}
 use Rattle.zemor.specs.Values.{sl2, row}
 use Rattle.zemor.specs.Peeling.{Tells, spelled}
-use Rattle.zemor.specs.Windows.{window-text, Short, Gives, ReadBack, Windowed}
+use Rattle.zemor.specs.Windows.{window-text, Short, ReadBack, Windowed}
 use Rattle.zemor.specs.declared.matrix.Sl2.{Sl2}
 use Rattle.zemor.specs.declared.peel.Bits.{Bits}
 use Rattle.zemor.specs.declared.window.Window.{Window}

@@ -1,13 +1,13 @@
 -- The written forms, read and written.
 use mathlib.Core.Path.{_≡_, refl, sym, ap, _∙_}
 use mathlib.Core.List.{List, [], _∷_, _++_, append-assoc}
-use mathlib.Core.Bool.{Bool, true, false, cond, _&&_, _||_}
-use Prim.Native.Nat.{ℕ, zero, suc, _+_, _-_, _*_, _/_, _%_, _^_, _≤_, _<_}
-use native.Mathlib.Nat.{mod-eq-of-lt, mod-lt, div-one}
+use mathlib.Core.Bool.{Bool, true, false, _&&_}
+use Prim.Native.Nat.{ℕ, zero, suc, _+_, _-_, _*_, _/_, _%_, _≤_, _<_}
+use native.Mathlib.Nat.{mod-eq-of-lt, div-one}
 use native.Mathlib.Numerals.{add-one}
 use native.Mathlib.Omega.{arith}
-use lib.Dec.{ltb, leb, lit<}
-use lib.ListN.{length, length-append, take, drop, getD, set, length-set}
+use lib.Dec.{ltb}
+use lib.ListN.{length, take, drop, getD, set, length-set}
 use Rattle.std.specs.shelf.Digits.{number, Under}
 use lib.Seq.{drop-cons}
 use Rattle.std.proofs.shelf.Lists.{take-more, take-more-set, take-all, take-append-drop, drop-drop, length-take-le, length-drop}
@@ -18,11 +18,11 @@ use Rattle.residue.specs.Residue.{prime}
 use Rattle.monoid.specs.Monoid.{all-bytes}
 use Rattle.monoid.proofs.Folds.{all-bytes-append}
 use Rattle.zemor.specs.Bits.{digits-in}
-use Rattle.zemor.specs.Values.{row, Valid, Checked}
+use Rattle.zemor.specs.Values.{row, Checked}
 use Rattle.zemor.specs.Written.{bytes-of, entries-of, hex-digit, hex-value, is-hex, all-hex, hex, unhex, WellFormed, ReadBytes, ReadHex, Decoded}
 use Rattle.zemor.specs.declared.matrix.Entries.{Entries}
 use Rattle.zemor.specs.declared.matrix.Sl2.{Sl2}
-use Rattle.zemor.proofs.Digits.{number-digits, digits-number, length-digits}
+use Rattle.zemor.proofs.Digits.{number-digits, digits-number}
 use Rattle.zemor.proofs.Laws.{four, like}
 use Rattle.zemor.proofs.Windowing.{all-bytes-in}
 

@@ -1,4 +1,3 @@
-ghost use mathlib.Core.Path.{_≡_};
 ghost use Rattle.monoid.specs.KarpRabinValues.{karp-rabin, inverse-of, Valid as ValidRow};
 ghost use Rattle.std.specs.Orderings.{When};
 use super::KarpRabin;

@@ -1,4 +1,3 @@
-ghost use mathlib.Core.Path.{_≡_};
 ghost use Rattle.zemor.specs.Values.{sl2, inverse-of, Valid as Conditions, Checked as Found};
 ghost use Rattle.std.specs.Orderings.{When};
 use super::Entries;

@@ -1,6 +1,5 @@
 //! The written forms of a fingerprint: sixteen bytes, and 32 hexadecimal digits.
 ghost use mathlib.Core.Path.{_≡_};
-ghost use mathlib.Core.List.{List};
 ghost use Prim.Native.Nat.{_+_, _<_, _≤_};
 ghost use lib.ListN.{length, take, drop};
 ghost use mathlib.Core.Bool.{true};

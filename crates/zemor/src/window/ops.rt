@@ -1,6 +1,5 @@
 ghost use mathlib.Core.Path.{_≡_};
-ghost use mathlib.Core.List.{List};
-ghost use Prim.Native.Nat.{ℕ, _*_, _/_, _^_, _<_, _≤_};
+ghost use Prim.Native.Nat.{_/_, _<_, _≤_};
 ghost use Rattle.zemor.specs.Bits.{digits-in};
 ghost use Rattle.zemor.specs.Windows.{window-text, ReadBack, Windowed};
 use super::Window;

@@ -1,4 +1,4 @@
-use mathlib.Core.Path.{_≡_, sym, _∙_}
+use mathlib.Core.Path.{sym, _∙_}
 use Rattle.zemor.proofs.Texts.{slips-show}
 use Rattle.zemor.proofs.text.fingerprint.Needs as need
 

@@ -2,7 +2,6 @@ use mathlib.Core.Path.{_≡_, ap, _∙_}
 use mathlib.Core.List.{List, [], _∷_, _++_}
 use Prim.Native.Nat.{ℕ}
 use lib.ListN.{getD}
-use Rattle.zemor.specs.Bits.{digits-in}
 use Rattle.zemor.specs.Values.{row}
 use Rattle.zemor.specs.Written.{bytes-of, entries-of}
 use Rattle.zemor.proofs.Writing.{four-digits, entries-back}

@@ -1,4 +1,4 @@
-use mathlib.Core.Path.{_≡_, ap, sym, _∙_}
+use mathlib.Core.Path.{ap}
 use native.Mathlib.Omega.{arith}
 use Rattle.std.specs.shelf.Digits.{number}
 use Rattle.zemor.proofs.Writing.{four-at, bytes-by-place}
