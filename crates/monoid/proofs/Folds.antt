@@ -2,10 +2,12 @@
 use mathlib.Core.Path.{_≡_, refl, sym, ap, _∙_}
 use mathlib.Core.List.{List, [], _∷_, _++_}
 use mathlib.Core.Bool.{true}
-use Prim.Native.Nat.{ℕ, _+_, _<_}
-use lib.ListN.{length, take, getD}
+use Prim.Native.Nat.{ℕ, zero, suc, _+_, _<_}
+use lib.Dec.{ltb}
+use lib.ListN.{length, take, drop, getD}
 use native.Mathlib.Omega.{arith}
 use Rattle.std.proofs.shelf.Lists.{take-more}
+use Rattle.std.proofs.shelf.Tests.{and-parts, and-from}
 use Rattle.std.proofs.shelf.Ways.{tells}
 use Rattle.monoid.specs.Monoid.{Model, Lawful, fold-from, fold-of, all-bytes}
 
@@ -42,3 +44,13 @@ pub all-bytes-more : (text : List ℕ) (i : ℕ) → i < length text → getD te
     → all-bytes (take (i + 1) text) ≡ true
 all-bytes-more text i h low all =
     ap all-bytes (take-more text i 0 h) ∙ all-bytes-append (take i text) (getD text i 0 ∷ []) all (grind (arith, tells))
+
+pub all-bytes-take : (n : ℕ) (text : List ℕ) → all-bytes text ≡ true → all-bytes (take n text) ≡ true
+all-bytes-take zero text h = refl
+all-bytes-take (suc n) [] h = refl
+all-bytes-take (suc n) (k ∷ ks) h = let p = and-parts (ltb k 256) (all-bytes ks) h in and-from _ _ (p .0) (all-bytes-take n ks (p .1))
+
+pub all-bytes-drop : (n : ℕ) (text : List ℕ) → all-bytes text ≡ true → all-bytes (drop n text) ≡ true
+all-bytes-drop zero text h = h
+all-bytes-drop (suc n) [] h = refl
+all-bytes-drop (suc n) (k ∷ ks) h = all-bytes-drop n ks (and-parts (ltb k 256) (all-bytes ks) h .1)

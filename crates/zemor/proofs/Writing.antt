@@ -11,12 +11,13 @@ use lib.ListN.{length, take, drop, getD, set, length-set}
 use Rattle.std.specs.shelf.Digits.{number, Under}
 use lib.Seq.{drop-cons}
 use Rattle.std.proofs.shelf.Lists.{take-more, take-more-set, take-all, take-append-drop, drop-drop, length-take-le, length-drop}
+use Rattle.std.proofs.shelf.Tests.{and-parts, and-from}
 use Rattle.std.proofs.shelf.Ways.{tells as by-tests}
 use Rattle.std.specs.declared.option.Option.{Option}
 use Rattle.std.specs.declared.option.Option.the-variants.{Some, None}
 use Rattle.residue.specs.Residue.{prime}
 use Rattle.monoid.specs.Monoid.{all-bytes}
-use Rattle.monoid.proofs.Folds.{all-bytes-append}
+use Rattle.monoid.proofs.Folds.{all-bytes-append, all-bytes-take, all-bytes-drop}
 use Rattle.zemor.specs.Bits.{digits-in}
 use Rattle.zemor.specs.Values.{row, Checked}
 use Rattle.zemor.specs.Written.{bytes-of, entries-of, hex-digit, hex-value, is-hex, all-hex, hex, unhex, WellFormed, ReadBytes, ReadHex, Decoded}
@@ -36,42 +37,21 @@ entries-back x =
     four (entries-of (bytes-of (row x))) (row x)
     (number-back (x .a) (v .0 .0)) (number-back (x .b) (v .0 .1)) (number-back (x .c) (v .1 .0 .0)) (number-back (x .d) (v .1 .0 .1))
 
-and-left : (a b : Bool) → a && b ≡ true → a ≡ true
-and-left true b e = refl
-and-left false b e = e
-
-and-right : (a b : Bool) → a && b ≡ true → b ≡ true
-and-right true b e = e
-and-right false b e = absurd (let z : _≡_ {A = ℕ} 0 1 = cc in omega arith)
-
-both : (a b : Bool) → a ≡ true → b ≡ true → a && b ≡ true
-both a b p q = ap (λ t. t && b) p ∙ q
-
 under-bytes : (bs : List ℕ) → all-bytes bs ≡ true → Under 256 bs
 under-bytes [] h = tt
-under-bytes (k ∷ ks) h = let low : k < 256 = grind (arith, by-tests) in (low, under-bytes ks (and-right (ltb k 256) (all-bytes ks) h))
+under-bytes (k ∷ ks) h = let low : k < 256 = grind (arith, by-tests) in (low, under-bytes ks (and-parts (ltb k 256) (all-bytes ks) h .1))
 
 -- numbers that are all bytes, by their places
 pub bytes-by-place : (bs : List ℕ) → ((i : ℕ) → getD bs i 0 < 256) → all-bytes bs ≡ true
 bytes-by-place [] h = refl
-bytes-by-place (k ∷ ks) h = both (ltb k 256) (all-bytes ks) (let low = h 0 in grind (arith, by-tests)) (bytes-by-place ks (λ i. h (suc i)))
-
-bytes-take : (n : ℕ) (bs : List ℕ) → all-bytes bs ≡ true → all-bytes (take n bs) ≡ true
-bytes-take zero bs h = refl
-bytes-take (suc n) [] h = refl
-bytes-take (suc n) (k ∷ ks) h = both _ _ (and-left (ltb k 256) (all-bytes ks) h) (bytes-take n ks (and-right (ltb k 256) (all-bytes ks) h))
-
-bytes-drop : (n : ℕ) (bs : List ℕ) → all-bytes bs ≡ true → all-bytes (drop n bs) ≡ true
-bytes-drop zero bs h = h
-bytes-drop (suc n) [] h = refl
-bytes-drop (suc n) (k ∷ ks) h = bytes-drop n ks (and-right (ltb k 256) (all-bytes ks) h)
+bytes-by-place (k ∷ ks) h = and-from (ltb k 256) (all-bytes ks) (let low = h 0 in grind (arith, by-tests)) (bytes-by-place ks (λ i. h (suc i)))
 
 -- four bytes again from the number that they write
 chunk-back : (bs : List ℕ) (n : ℕ) → n + 4 ≤ length bs → all-bytes bs ≡ true → digits-in 256 (number 256 (take 4 (drop n bs))) 4 ≡ take 4 (drop n bs)
 chunk-back bs n h all =
     let ds = take 4 (drop n bs) in
     let four-long : length ds ≡ 4 = length-take-le 4 (drop n bs) (simp length-drop (omega arith)) in
-    ap (digits-in 256 (number 256 ds)) (sym four-long) ∙ digits-number 256 (omega arith) ds (under-bytes ds (bytes-take 4 (drop n bs) (bytes-drop n bs all)))
+    ap (digits-in 256 (number 256 ds)) (sym four-long) ∙ digits-number 256 (omega arith) ds (under-bytes ds (all-bytes-take 4 (drop n bs) (all-bytes-drop n bs all)))
 
 -- a list of sixteen is its four quarters
 quarters : (bs : List ℕ) → length bs ≡ 16 → take 4 bs ++ (take 4 (drop 4 bs) ++ (take 4 (drop 8 bs) ++ take 4 (drop 12 bs))) ≡ bs
@@ -135,13 +115,13 @@ unhex-hex (k ∷ ks) h =
     let low : k < 256 = grind (arith, by-tests) in
     ap (λ n. n ∷ unhex (hex ks))
     (ap (λ m. 16 * m + hex-value (hex-digit (k % 16))) (digit-back (k / 16) (omega arith)) ∙ ap (λ m. 16 * (k / 16) + m) (digit-back (k % 16) (omega arith)) ∙ omega arith)
-    ∙ ap (λ t. k ∷ t) (unhex-hex ks (and-right (ltb k 256) (all-bytes ks) h))
+    ∙ ap (λ t. k ∷ t) (unhex-hex ks (and-parts (ltb k 256) (all-bytes ks) h .1))
 
 pub hex-all : (bs : List ℕ) → all-bytes bs ≡ true → all-hex (hex bs) ≡ true
 hex-all [] h = refl
 hex-all (k ∷ ks) h =
     let low : k < 256 = grind (arith, by-tests) in
-    both _ _ (digit-is (k / 16) (omega arith)) (both _ _ (digit-is (k % 16) (omega arith)) (hex-all ks (and-right (ltb k 256) (all-bytes ks) h)))
+    and-from _ _ (digit-is (k / 16) (omega arith)) (and-from _ _ (digit-is (k % 16) (omega arith)) (hex-all ks (and-parts (ltb k 256) (all-bytes ks) h .1)))
 
 pub length-hex : (bs : List ℕ) → length (hex bs) ≡ 2 * length bs
 length-hex [] = refl
@@ -153,9 +133,9 @@ hex-unhex zero (c ∷ cs) h all = absurd (omega arith)
 hex-unhex (suc n) [] h all = absurd (omega arith)
 hex-unhex (suc n) (c ∷ []) h all = absurd (omega arith)
 hex-unhex (suc n) (c ∷ (d ∷ cs)) h all =
-    let hc = and-left (is-hex c) (is-hex d && all-hex cs) all in
-    let rest = and-right (is-hex c) (is-hex d && all-hex cs) all in
-    let hd = and-left (is-hex d) (all-hex cs) rest in
+    let hc = and-parts (is-hex c) (is-hex d && all-hex cs) all .0 in
+    let rest = and-parts (is-hex c) (is-hex d && all-hex cs) all .1 in
+    let hd = and-parts (is-hex d) (all-hex cs) rest .0 in
     let lc = value-low c hc in
     let ld = value-low d hd in
     let high : (16 * hex-value c + hex-value d) / 16 ≡ hex-value c = omega arith in
@@ -164,7 +144,7 @@ hex-unhex (suc n) (c ∷ (d ∷ cs)) h all =
     ∙ ap (λ k. hex-digit (hex-value c) ∷ hex-digit k ∷ hex (unhex cs)) low
     ∙ ap (λ k. k ∷ hex-digit (hex-value d) ∷ hex (unhex cs)) (value-back c hc)
     ∙ ap (λ k. c ∷ k ∷ hex (unhex cs)) (value-back d hd)
-    ∙ ap (λ t. c ∷ d ∷ t) (hex-unhex n cs (omega arith) (and-right (is-hex d) (all-hex cs) rest))
+    ∙ ap (λ t. c ∷ d ∷ t) (hex-unhex n cs (omega arith) (and-parts (is-hex d) (all-hex cs) rest .1))
 
 pub hex-push : (bs : List ℕ) (k : ℕ) → hex (bs ++ (k ∷ [])) ≡ hex bs ++ (hex-digit (k / 16) ∷ hex-digit (k % 16) ∷ [])
 hex-push [] k = refl
@@ -206,20 +186,20 @@ unhex-more bs text i h room e =
 
 all-hex-append : (u v : List ℕ) → all-hex u ≡ true → all-hex v ≡ true → all-hex (u ++ v) ≡ true
 all-hex-append [] v hu hv = hv
-all-hex-append (c ∷ u) v hu hv = both _ _ (and-left (is-hex c) (all-hex u) hu) (all-hex-append u v (and-right (is-hex c) (all-hex u) hu) hv)
+all-hex-append (c ∷ u) v hu hv = and-from _ _ (and-parts (is-hex c) (all-hex u) hu .0) (all-hex-append u v (and-parts (is-hex c) (all-hex u) hu .1) hv)
 
 pub all-hex-more : (text : List ℕ) (i : ℕ) → 2 * i + 1 < length text → all-hex (take (2 * i) text) ≡ true
     → is-hex (getD text (2 * i) 0) ≡ true → is-hex (getD text (2 * i + 1) 0) ≡ true → all-hex (take (2 * (i + 1)) text) ≡ true
 all-hex-more text i room all h k =
     let c = getD text (2 * i) 0 in
     let d = getD text (2 * i + 1) 0 in
-    ap all-hex (two-more text i room) ∙ all-hex-append (take (2 * i) text) (c ∷ d ∷ []) all (both (is-hex c) (is-hex d && true) h (both (is-hex d) true k refl))
+    ap all-hex (two-more text i room) ∙ all-hex-append (take (2 * i) text) (c ∷ d ∷ []) all (and-from (is-hex c) (is-hex d && true) h (and-from (is-hex d) true k refl))
 
 -- a text with one that is no digit
 pub not-all-hex : (text : List ℕ) (i : ℕ) → i < length text → is-hex (getD text i 0) ≡ false → all-hex text ≡ true → ⊥
 not-all-hex [] i h none all = omega arith
-not-all-hex (c ∷ cs) zero h none all = let e = and-left (is-hex c) (all-hex cs) all in let z : _≡_ {A = ℕ} 0 1 = cc in omega arith
-not-all-hex (c ∷ cs) (suc i) h none all = not-all-hex cs i (omega arith) none (and-right (is-hex c) (all-hex cs) all)
+not-all-hex (c ∷ cs) zero h none all = let e = and-parts (is-hex c) (all-hex cs) all .0 in let z : _≡_ {A = ℕ} 0 1 = cc in omega arith
+not-all-hex (c ∷ cs) (suc i) h none all = not-all-hex cs i (omega arith) none (and-parts (is-hex c) (all-hex cs) all .1)
 
 pub hex-back : (x : Sl2) → WellFormed (hex (bytes-of (row x))) × (entries-of (unhex (hex (bytes-of (row x)))) ≡ row x)
 hex-back x =
