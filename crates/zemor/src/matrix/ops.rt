@@ -1,3 +1,4 @@
+ghost use mathlib.Core.Path.{_≡_};
 ghost use Rattle.zemor.specs.Values.{sl2, inverse-of, Valid as Conditions, Checked as Found};
 ghost use Rattle.std.specs.Orderings.{When};
 use super::Entries;
@@ -81,6 +82,19 @@ impl Sl2 {
             d: e.d,
         })
     }
+
+    /// Whether two values are equal.
+    pub fn equals(self, other: Sl2) -> bool
+        ensures { λ r. ⌜ When r (self ≡ other) (¬ (self ≡ other)) ⌝ }
+    {
+        same_entries(self.to_row(), other.to_row())
+    }
+}
+
+fn same_entries(x: Entries, y: Entries) -> bool
+    ensures { λ r. ⌜ When r (x ≡ y) (¬ (x ≡ y)) ⌝ }
+{
+    x.a == y.a && x.b == y.b && x.c == y.c && x.d == y.d
 }
 
 /// Whether the entries are those of a value.
