@@ -1,0 +1,9 @@
+pub mod Forests
+pub mod Readings
+pub mod Heights
+pub mod Keeping
+pub mod Pushes
+pub mod Knows
+pub mod Appends
+pub mod Levels
+pub mod Builds

@@ -1,0 +1,4 @@
+pub mod Tree
+pub mod Arena
+pub mod Memory
+pub mod Steps

@@ -1,0 +1,4 @@
+//! Tests of the trees on small stores.
+
+#[cfg(test)]
+mod tests;
