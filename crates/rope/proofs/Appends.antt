@@ -6,13 +6,12 @@ use native.Mathlib.Omega.{arith}
 use lib.ListN.{length, take, drop, length-append, length-take}
 use Rattle.std.proofs.shelf.Lists.{length-take-le}
 use Rattle.monoid.specs.Monoid.{Model}
-use Rattle.rope.specs.Tree.{Tree, size, height, all-lawful}
+use Rattle.rope.specs.Tree.{size, height, all-lawful}
 use Rattle.rope.specs.Arena.{grown, forest, row-in}
-use Rattle.rope.specs.Memory.{arena-of, Valid, Fills}
+use Rattle.rope.specs.Memory.{arena-of, Valid}
 use Rattle.rope.specs.Steps.{Appended}
 use Rattle.rope.specs.declared.store.Store.{Store}
 use Rattle.rope.proofs.Forests.{grown-more}
-use Rattle.rope.proofs.Keeping.{fills-none}
 
 module _ {V R : Type 0} (m : Model V R) (s t : Store V R) (bs : List ℕ) (w : Valid s)
     (short : s .«added_used» + length bs ≤ 2 ^ 24)

@@ -1,13 +1,13 @@
 -- A tree that is built of two halves.
-use mathlib.Core.Path.{_≡_, refl, sym, ap, _∙_, subst}
-use mathlib.Core.List.{List, _++_}
+use mathlib.Core.Path.{_≡_, sym, ap, _∙_, subst}
+use mathlib.Core.List.{_++_}
 use Prim.Native.Nat.{ℕ, _+_, _-_, _*_, _/_, _^_, _<_, _≤_, max}
 use native.Mathlib.Omega.{arith}
 use lib.ListN.{length, take, drop}
 use Rattle.monoid.specs.Monoid.{Model}
 use Rattle.rope.specs.Tree.{Tree, leaf, node, text, size, height}
 use Rattle.rope.specs.Arena.{part, source-text}
-use Rattle.rope.specs.Memory.{arena-of, tree-of, Valid, Free, Takes}
+use Rattle.rope.specs.Memory.{arena-of, tree-of, Valid, Takes}
 use Rattle.rope.specs.Steps.{leaves, Leafs, Pushed, Pairs, Buildable, Built}
 use Rattle.rope.specs.declared.record.Source.{Source}
 use Rattle.rope.specs.declared.record.Source.the-variants.{Build, Added}

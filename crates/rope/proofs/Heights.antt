@@ -2,11 +2,12 @@
 use mathlib.Core.Path.{_≡_, refl, ap, _∙_}
 use mathlib.Core.List.{[], _∷_}
 use mathlib.Core.Bool.{true}
-use mathlib.Core.Logic.{_⊎_, inl, inr}
+use mathlib.Core.Logic.{inl, inr}
 use Prim.Native.Nat.{ℕ, zero, suc, _+_, _-_, _^_, _<_, _≤_, max}
 use native.Mathlib.Omega.{arith}
 use Rattle.std.proofs.shelf.Tests.{cases-lt}
-use Rattle.rope.specs.Tree.{Tree, leaf, node, size, height, lawful, fib, Fewest}
+use Rattle.residue.specs.Fibonacci.{fib}
+use Rattle.rope.specs.Tree.{Tree, leaf, node, size, height, lawful, Fewest}
 use Rattle.rope.proofs.Readings.{size-node, leaf-facts, node-facts, lawful-node}
 
 fib-step : (n : ℕ) → fib n ≤ fib (suc n)

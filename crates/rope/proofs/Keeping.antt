@@ -1,9 +1,9 @@
 -- What an operation keeps, one after the other, and that a kept record keeps its tree.
 use mathlib.Core.Path.{_≡_, refl, sym, ap, _∙_}
-use mathlib.Core.List.{List, [], _∷_, _++_}
-use Prim.Native.Nat.{ℕ, _+_, _-_, _<_, _≤_, min}
+use mathlib.Core.List.{List, [], _++_}
+use Prim.Native.Nat.{ℕ, _+_, _-_, _<_, _≤_}
 use native.Mathlib.Omega.{arith}
-use lib.ListN.{length, take, drop, getD, length-take}
+use lib.ListN.{length, take, drop, getD}
 use lib.Seq.{take-take}
 use Rattle.std.proofs.shelf.Lists.{drop-drop, length-take-le, getD-append-left, take-append-drop}
 use Rattle.monoid.specs.Monoid.{Model}

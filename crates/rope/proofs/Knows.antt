@@ -4,7 +4,7 @@ use Prim.Native.Nat.{ℕ, _+_, _^_, _<_, _≤_}
 use native.Mathlib.Omega.{arith}
 use Rattle.monoid.specs.Monoid.{Model}
 use Rattle.rope.specs.Tree.{Tree, node, size, height}
-use Rattle.rope.specs.Memory.{tree-of, Valid, Keeps, Free, Takes}
+use Rattle.rope.specs.Memory.{tree-of, Valid, Free, Takes}
 use Rattle.rope.specs.Steps.{Pushed, Pairs}
 use Rattle.rope.specs.declared.store.Store.{Store}
 use Rattle.rope.proofs.Keeping.{keeps-tree}

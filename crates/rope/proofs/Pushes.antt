@@ -8,9 +8,9 @@ use lib.ListN.{length, take, drop, getD, set, length-append, length-take, length
 use Rattle.std.proofs.shelf.Lists.{take-more-set, map-push, getD-push, take-set, drop-set-lt}
 use Rattle.monoid.specs.Monoid.{Model, Lawful, fold-of, all-bytes}
 use Rattle.monoid.proofs.Folds.{fold-append}
-use Rattle.rope.specs.Tree.{Tree, leaf, node, text, size, height, lawful, all-lawful}
-use Rattle.rope.specs.Arena.{Sound, Summed, Reads, grown, forest, part, source-text, row-in}
-use Rattle.rope.specs.Memory.{arena-of, tree-of, Valid, Fills, Keeps, Takes}
+use Rattle.rope.specs.Tree.{Tree, leaf, node, text, size, height, all-lawful}
+use Rattle.rope.specs.Arena.{Reads, grown, forest, part, source-text, row-in}
+use Rattle.rope.specs.Memory.{arena-of, tree-of, Valid}
 use Rattle.rope.specs.Steps.{shown, Fine, Pushed, Leafs, Pairs}
 use Rattle.rope.specs.declared.record.Record.{Record}
 use Rattle.rope.specs.declared.record.Shape.the-variants.{Leaf, Inner}

@@ -3,7 +3,7 @@ use mathlib.Core.Path.{_≡_}
 use mathlib.Core.List.{List, _++_}
 use mathlib.Core.Bool.{true}
 use Prim.Native.Nat.{ℕ, _+_, _-_, _*_, _/_, _^_, _<_, _≤_}
-use lib.ListN.{length, take}
+use lib.ListN.{length}
 use Rattle.monoid.specs.Monoid.{Model}
 use Rattle.rope.specs.Tree.{Tree, text, size, height, lawful}
 use Rattle.rope.specs.Arena.{Summed, shaped, row-in, part, source-text, forest}

@@ -2,9 +2,10 @@
 use mathlib.Core.Path.{_≡_}
 use mathlib.Core.List.{List, [], _∷_, _++_}
 use mathlib.Core.Bool.{Bool, true, _&&_}
-use Prim.Native.Nat.{ℕ, zero, suc, _+_, _≤_, max}
+use Prim.Native.Nat.{ℕ, _+_, _≤_, max}
 use lib.Dec.{ltb, leb}
 use lib.ListN.{length}
+use Rattle.residue.specs.Fibonacci.{fib}
 use Rattle.monoid.specs.Monoid.{all-bytes}
 
 pub data Tree : Type 0 where
@@ -32,12 +33,6 @@ lawful (node l r) = lawful l && lawful r && leb (height l) (height r + 1) && leb
 abbrev pub all-lawful : List Tree → Bool
 all-lawful [] = true
 all-lawful (t ∷ ts) = lawful t && all-lawful ts
-
--- the numbers of Fibonacci
-abbrev pub fib : ℕ → ℕ
-fib zero = 0
-fib (suc zero) = 1
-fib (suc (suc n)) = fib (suc n) + fib n
 
 -- the fewest bytes of a lawful tree of height h are fib (h + 2): none has fewer, and some has as many
 abbrev pub Fewest : Type 0

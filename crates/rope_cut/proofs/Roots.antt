@@ -1,8 +1,8 @@
 -- The steps of edits of texts at roots.
 use mathlib.Core.Path.{_≡_, refl, sym, ap, _∙_}
-use mathlib.Core.List.{List, [], _++_}
+use mathlib.Core.List.{List, _++_}
 use mathlib.Core.Bool.{true}
-use Prim.Native.Nat.{ℕ, _+_, _-_, _*_, _^_, _<_, _≤_, max}
+use Prim.Native.Nat.{ℕ, _+_, _-_, _*_, _^_, _<_, _≤_}
 use native.Mathlib.Omega.{arith}
 use lib.ListN.{length, take, drop, length-append, length-drop}
 use Rattle.std.proofs.shelf.Lists.{length-take-le, drop-all}
@@ -12,7 +12,7 @@ use Rattle.std.specs.Holes.{between}
 use Rattle.monoid.specs.Monoid.{Model}
 use Rattle.rope.specs.Tree.{text, height}
 use Rattle.rope.specs.Arena.{rooted}
-use Rattle.rope.specs.Memory.{tree-of, Valid, Keeps, Free, Takes}
+use Rattle.rope.specs.Memory.{Valid, Keeps, Free, Takes}
 use Rattle.rope.specs.declared.record.Root.{Root}
 use Rattle.rope.specs.declared.record.Root.the-variants.{Empty, At}
 use Rattle.rope.specs.declared.store.Store.{Store}

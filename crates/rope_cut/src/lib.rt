@@ -1,5 +1,4 @@
 //! Parts of trees as trees: fronts and backs, and the edits that are made of them.
-ghost use mathlib.Core.Path.{_≡_};
 ghost use mathlib.Core.List.{_++_};
 ghost use Prim.Native.Nat.{_<_, _≤_, _+_, _-_, _*_, _^_};
 ghost use lib.ListN.{length, take, drop};

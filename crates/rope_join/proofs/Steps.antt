@@ -1,7 +1,7 @@
 -- The steps of a join on a store.
 use mathlib.Core.Path.{_≡_, refl, sym, ap, _∙_, subst}
 use mathlib.Core.List.{_++_, append-assoc}
-use Prim.Native.Nat.{ℕ, _+_, _*_, _^_, _<_, _≤_, max}
+use Prim.Native.Nat.{ℕ, _+_, _^_, _<_, _≤_}
 use native.Mathlib.Omega.{arith}
 use Rattle.monoid.specs.Monoid.{Model}
 use Rattle.rope.specs.Tree.{Tree, node, text, size, height}

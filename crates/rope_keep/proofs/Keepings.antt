@@ -1,29 +1,26 @@
 -- The steps of keeping a text.
 use mathlib.Core.Path.{_≡_, refl, sym, ap, _∙_}
 use mathlib.Core.List.{List, [], _∷_, _++_, append-nil}
-use mathlib.Core.Bool.{true}
-use mathlib.Core.Logic.{_⊎_, inl, inr}
-use Prim.Native.Nat.{ℕ, _+_, _-_, _*_, _^_, _<_, _≤_, max}
+use Prim.Native.Nat.{ℕ, _+_, _-_, _^_, _<_, _≤_, max}
 use native.Mathlib.Omega.{arith}
 use lib.ListN.{length, take, drop, length-append}
 use Rattle.std.proofs.shelf.Lists.{take-all, drop-at, length-take-le}
 use Rattle.std.proofs.shelf.Tests.{lt-ltb}
 use Rattle.monoid.specs.Monoid.{Model}
 use Rattle.rope.specs.Tree.{height}
-use Rattle.rope.specs.Arena.{part, source-text, rooted}
-use Rattle.rope.specs.Memory.{arena-of, tree-of, Valid, Keeps, Free, Takes}
+use Rattle.rope.specs.Arena.{part}
+use Rattle.rope.specs.Memory.{arena-of, tree-of, Valid, Free}
 use Rattle.rope.specs.Steps.{leaves, Appended, Buildable, Built}
 use Rattle.rope.specs.declared.record.Root.{Root}
 use Rattle.rope.specs.declared.record.Root.the-variants.{Empty, At}
 use Rattle.rope.specs.declared.record.Source.{Source}
-use Rattle.rope.specs.declared.record.Source.the-variants.{Build, Added}
+use Rattle.rope.specs.declared.record.Source.the-variants.{Added}
 use Rattle.rope.specs.declared.store.Store.{Store}
-use Rattle.rope.proofs.Keeping.{keeps-none, keeps-trans, takes-none, takes-within}
-use Rattle.rope.proofs.Levels.{Level, level-most}
-use Rattle.rope.proofs.Pushes.{length-part}
+use Rattle.rope.proofs.Keeping.{keeps-none, keeps-trans}
+use Rattle.rope.proofs.Levels.{level-most}
 use Rattle.rope_cut.specs.Parts.{Rooted, Makes, text-in, height-in, higher, join-cost, edit-need}
 use Rattle.rope_cut.proofs.Roots.{Stays, root-stays, rooted-stays}
-use Rattle.rope_keep.specs.Kept.{Addable, Grows, Stands, text-need, add-need}
+use Rattle.rope_keep.specs.Kept.{Grows, Stands, text-need, add-need}
 
 nothing : (bs : List ℕ) → length bs ≡ 0 → bs ≡ []
 nothing [] e = refl

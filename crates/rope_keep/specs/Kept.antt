@@ -6,7 +6,7 @@ use Prim.Native.Nat.{ℕ, _+_, _-_, _*_, _^_, _<_, _≤_}
 use lib.ListN.{length}
 use Rattle.monoid.specs.Monoid.{Model}
 use Rattle.rope.specs.Arena.{rooted}
-use Rattle.rope.specs.Memory.{arena-of, Valid, Keeps, Free}
+use Rattle.rope.specs.Memory.{arena-of, Valid, Keeps}
 use Rattle.rope.specs.Steps.{leaves}
 use Rattle.rope.specs.declared.record.Root.{Root}
 use Rattle.rope.specs.declared.store.Store.{Store}

@@ -15,7 +15,8 @@ use Rattle.residue.proofs.Modulo.{dot, same-add, same-mul}
 use Rattle.std.specs.declared.option.Option.the-variants.{Some, None}
 use Rattle.zemor.specs.Matrix.{identity, bit, matrix}
 use Rattle.zemor.specs.Bits.{product-of}
-use Rattle.zemor.specs.Whole.{whole, whole-times, fib, Bounded, Edge}
+use Rattle.residue.specs.Fibonacci.{fib}
+use Rattle.zemor.specs.Whole.{whole, whole-times, Bounded, Edge}
 use Rattle.zemor.specs.Peeling.{First}
 use Rattle.zemor.specs.declared.matrix.Entries.{Entries}
 use Rattle.zemor.proofs.Laws.{four}

@@ -2,8 +2,9 @@
 use mathlib.Core.Path.{_≡_}
 use mathlib.Core.List.{List, [], _∷_}
 use mathlib.Core.Bool.{Bool}
-use Prim.Native.Nat.{ℕ, zero, suc, _+_, _*_, _≤_, _<_}
+use Prim.Native.Nat.{_+_, _*_, _≤_, _<_}
 use lib.ListN.{length}
+use Rattle.residue.specs.Fibonacci.{fib}
 use Rattle.residue.specs.Residue.{prime}
 use Rattle.zemor.specs.Matrix.{matrix, identity, bit}
 use Rattle.zemor.specs.declared.matrix.Entries.{Entries}
@@ -16,12 +17,6 @@ whole-times x y =
 abbrev pub whole : List Bool → Entries
 whole [] = identity
 whole (b ∷ w) = whole-times (bit b) (whole w)
-
--- Fibonacci's numbers: F(1) = F(2) = 1
-abbrev pub fib : ℕ → ℕ
-fib zero = 0
-fib (suc zero) = 1
-fib (suc (suc n)) = fib (suc n) + fib n
 
 -- a product of n bits has no entry above F(n + 1)
 abbrev pub Bounded : Type 0

@@ -1,6 +1,4 @@
 use mathlib.Core.Path.{_≡_, _∙_, ap, sym}
-use Prim.Native.Nat.{ℕ}
-use mathlib.Core.List.{List}
 use Rattle.monoid.specs.Monoid.{fold-of, all-bytes}
 use Rattle.rope.specs.Arena.{Arena, part}
 use Rattle.rope.specs.Memory.{arena-of}

@@ -1,9 +1,8 @@
-use mathlib.Core.Path.{_≡_, ap, sym, _∙_}
+use mathlib.Core.Path.{_≡_, ap}
 use mathlib.Core.Bool.{Bool, true, false}
 use Rattle.std.specs.Orderings.{When}
 use Rattle.zemor.specs.Values.{row}
 use Rattle.zemor.specs.declared.matrix.Sl2.{Sl2}
-use Rattle.zemor.specs.declared.matrix.Entries.{Entries}
 use Rattle.zemor.proofs.Laws.{same}
 use Rattle.zemor.proofs.matrix.Sl2.equals.Needs as need
 

@@ -1,0 +1,2 @@
+pub mod ByteRange
+pub mod ByteRangeValues

@@ -1,0 +1,5 @@
+pub mod Copying
+pub mod Firsts
+pub mod Marking
+pub mod Placing
+pub mod Reading

@@ -1,0 +1,6 @@
+pub mod Refusals
+pub mod Documents
+pub mod State
+pub mod Questions
+pub mod Places
+pub mod Marked

@@ -1,0 +1,5 @@
+pub mod Kept
+pub mod Shelves
+pub mod Calls
+pub mod Longer
+pub mod Steps
