@@ -36,7 +36,6 @@ impl<'v, M: Monoid> View<'v, M> {
         }
     }
 
-    /// Record `i`, which tells the length, the height and the summary of its tree.
     /// How many records are used.
     pub fn records_used(self) -> usize
         ensures { λ r. ⌜ r ≡ length (self .entry .records .now) ⌝ }
@@ -44,6 +43,7 @@ impl<'v, M: Monoid> View<'v, M> {
         self.records.len()
     }
 
+    /// Record `i`, which tells the length, the height and the summary of its tree.
     pub fn record(self, i: u32) -> Record<M::Row>
         requires sound { ⌜ Sound (seen self) ⌝ }
         requires below { ⌜ i < length (self .records .now) ⌝ }

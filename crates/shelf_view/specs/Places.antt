@@ -3,15 +3,11 @@ use mathlib.Core.Path.{_≡_}
 use mathlib.Core.Bool.{true}
 use Prim.Native.Nat.{ℕ, _≤_}
 use lib.ListN.{length, getD}
-use Rattle.std.specs.declared.result.Result.{Result}
 use Rattle.monoid.specs.Monoid.{Model}
 use Rattle.rope.specs.Arena.{text-of, height-of, kept-of}
 use Rattle.rope.specs.declared.record.Root.{Root}
 use Rattle.shelf_view.specs.Documents.{fine, root-in}
 use Rattle.shelf_view.specs.State.{Shelved, state-of, heights-of, kept-values, text-at, draft-text}
-use Rattle.shelf_view.specs.Refusals.{Answers}
-use Rattle.shelf_view.specs.Questions.{of-document}
-use Rattle.shelf_view.specs.declared.refusal.Refusal.{Refusal}
 use Rattle.shelf_view.specs.declared.view.part.Part.{Part}
 
 -- p is the root of document d
@@ -20,9 +16,6 @@ pub record Lies {V R : Type 0} (m : Model V R) (s : Shelved R) (d : ℕ) (p : Ro
   pub text-is : text-at (state-of s) d ≡ text-of (s .arena) p
   pub high : getD (heights-of s) d 0 ≡ height-of (s .arena) p
   pub kept : getD (kept-values m s) d (m .empty) ≡ kept-of m (s .arena) p
-
-abbrev pub Placed : {V R : Type 0} → Model V R → Shelved R → ℕ → Result Root Refusal → Type 0
-Placed m s d r = Answers (of-document (state-of s) d) (λ p. Lies m s d p) r
 
 -- the root of document d with a lawful part of it
 pub record Span {V R : Type 0} (m : Model V R) (s : Shelved R) (d a b : ℕ) (p : Part) : Type 0 where
