@@ -162,7 +162,7 @@ fn reads_back_and_copies() -> Result<(), Fail> {
     check_eq(wrong(&shelf, &CASES), None)
 }
 
-// What `same` answers of document 1: 0 different, 1 equal, 2 alike, or the refusal's number.
+// What `same` answers of the first text put: 0 different, 1 equal, 2 alike, or the refusal's number.
 fn compared<'b, 'a>(shelf: &Shelf<'b, 'a, Marked>, a: usize, e: u32, b: usize, n: usize) -> u8 {
     match shelf.view().same(1, a, e, b, n) {
         Ok(Sameness::Different) => 0,
@@ -172,7 +172,7 @@ fn compared<'b, 'a>(shelf: &Shelf<'b, 'a, Marked>, a: usize, e: u32, b: usize, n
     }
 }
 
-// The first row for which `same` answers otherwise: a in document 1, e, b, n and the answer.
+// The first row for which `same` answers otherwise: a in the first text put, e, b, n and the answer.
 fn unlike<'b, 'a>(
     shelf: &Shelf<'b, 'a, Marked>,
     table: &[(usize, u32, usize, usize, u8)],
