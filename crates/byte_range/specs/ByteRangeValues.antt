@@ -1,5 +1,5 @@
 -- The values are the rows of two bytes.
-use Rattle.std.proofs.Math.Logic.{Dec·and}
+use Rattle.std.proofs.Math.Logic.Dec.{and}
 use Rattle.std.specs.Prelude.{ℕ, ◌<◌}
 use Rattle.std.proofs.Math.Decide.{dec_lt}
 use Rattle.std.proofs.Common.{arith, lit<}
@@ -18,7 +18,7 @@ abbrev pub value : (r : ByteRangeRow) → Valid r → ByteRange
 value r valid = record { least = r.least; greatest = r.greatest; fits = valid }
 
 pub valid_dec : (r : ByteRangeRow) → Dec (Valid r)
-valid_dec r = Dec·and (dec_lt r.least 256) (dec_lt r.greatest 256)
+valid_dec r = and (dec_lt r.least 256) (dec_lt r.greatest 256)
 
 pub of_byte_valid : (k : ℕ) → Valid (rows.of_byte k)
 of_byte_valid k = (omega arith, omega arith)

@@ -1,4 +1,5 @@
 //! Numbers written in decimal: no leading zeros, and 0 as "0".
+#![tactic(auto)]
 ghost use Rattle.std.specs.Prelude.{◌≡◌, length, decimal};
 ghost use Rattle.decimal.specs.Decimal.{Wrote};
 

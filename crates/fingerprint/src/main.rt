@@ -1,4 +1,5 @@
 //! Prints the fingerprint of standard input, how many bytes it has, and its lines and columns.
+#![tactic(auto)]
 mod stream;
 
 use monoid::Monoid;

@@ -1,6 +1,6 @@
 -- The values of Karp and Rabin's fingerprint are the rows with each number below p, and w × v equal to 1 modulo p.
 use Rattle.std.proofs.Common.{ap, ◌∙◌, mul_comm, lit<}
-use Rattle.std.proofs.Math.Logic.{Dec·and}
+use Rattle.std.proofs.Math.Logic.Dec.{and}
 use Rattle.std.specs.Prelude.{◌+◌, ◌*◌, ◌%◌, ◌<◌, refl}
 use Rattle.std.proofs.Math.Decide.{dec_lt, ℕ_discrete}
 use Rattle.residue.specs.Residue.{prime, minus}
@@ -22,8 +22,8 @@ value r valid = record { h = r.h; w = r.w; v = r.v; valid = valid }
 
 pub valid_dec : (r : KarpRabinRow) → Dec (Valid r)
 valid_dec r =
-    Dec·and (Dec·and (dec_lt r.h prime) (dec_lt r.w prime))
-    (Dec·and (dec_lt r.v prime) (ℕ_discrete ((r.w * r.v) % prime) 1))
+    and (and (dec_lt r.h prime) (dec_lt r.w prime))
+    (and (dec_lt r.v prime) (ℕ_discrete ((r.w * r.v) % prime) 1))
 
 pub joined_valid : (x y : KarpRabin) → Valid (rows.joined (row x) (row y))
 joined_valid x y = (

@@ -1,6 +1,6 @@
 -- The values of line_column_model are the rows whose numbers fit 32 bits.
 use Rattle.std.specs.Prelude.{ℕ, ◌^◌, ◌<◌, Bool, true, false, cond, ◌==◌, nat_lt}
-use Rattle.std.proofs.Math.Logic.{Dec·and}
+use Rattle.std.proofs.Math.Logic.Dec.{and}
 use Rattle.std.proofs.Math.Decide.{dec_lt}
 use Rattle.std.proofs.Common.{arith, lit<}
 use Rattle.monoid.specs.Monoid.{Model, checked}
@@ -18,7 +18,7 @@ abbrev pub value : (r : LineColumnRow) → Valid r → LineColumn
 value r valid = record { lines = r.lines; columns = r.columns; fits = valid }
 
 pub valid_dec : (r : LineColumnRow) → Dec (Valid r)
-valid_dec r = Dec·and (dec_lt r.lines (2 ^ 32)) (dec_lt r.columns (2 ^ 32))
+valid_dec r = and (dec_lt r.lines (2 ^ 32)) (dec_lt r.columns (2 ^ 32))
 
 chosen : (b : Bool) (x y : ℕ) → x < 2 ^ 32 → y < 2 ^ 32 → cond b x y < 2 ^ 32
 chosen true x y h k = h

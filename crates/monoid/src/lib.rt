@@ -1,4 +1,6 @@
 //! Summaries of texts: monoids with a value for each byte, and the groups among them.
+#![tactic(auto)]
+
 ghost use Rattle.std.specs.Prelude.{◌≡◌};
 ghost use Rattle.monoid.specs.Monoid.{Model, Lawful, Inverse};
 

@@ -1,4 +1,5 @@
 //! Tests of the trees on small stores.
+#![tactic(auto)]
 
 #[cfg(test)]
 mod tests;

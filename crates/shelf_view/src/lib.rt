@@ -1,4 +1,5 @@
 //! Reading a text shelf: every question, of an open shelf and of a closed one.
+#![tactic(auto)]
 pub mod draft_id;
 pub mod refusal;
 pub mod sameness;

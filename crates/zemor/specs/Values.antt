@@ -1,6 +1,6 @@
 -- The values of the fingerprint are the matrices with entries below p and a × d - b × c equal to 1 modulo p.
 use Rattle.std.specs.Prelude.{◌≡◌, ℕ, ◌+◌, ◌*◌, ◌%◌, Bool, true, false, List, [], ◌∷◌, Some, None, Option, refl}
-use Rattle.std.proofs.Math.Logic.{Dec·and}
+use Rattle.std.proofs.Math.Logic.Dec.{and}
 use Rattle.std.proofs.Math.Decide.{dec_lt, ℕ_discrete}
 use Rattle.std.proofs.Common.{lit<}
 use Rattle.residue.specs.Residue.{prime}
@@ -23,8 +23,8 @@ value e valid = record { a = e.a; b = e.b; c = e.c; d = e.d; valid = valid }
 
 pub valid_dec : (e : Entries) → Dec (Valid e)
 valid_dec e =
-    Dec·and (Dec·and (dec_lt e.a prime) (dec_lt e.b prime))
-    (Dec·and (Dec·and (dec_lt e.c prime) (dec_lt e.d prime)) (ℕ_discrete ((e.a * e.d) % prime) ((e.b * e.c + 1) % prime)))
+    and (and (dec_lt e.a prime) (dec_lt e.b prime))
+    (and (and (dec_lt e.c prime) (dec_lt e.d prime)) (ℕ_discrete ((e.a * e.d) % prime) ((e.b * e.c + 1) % prime)))
 
 pub identity_valid : Valid identity
 identity_valid = ((lit< tt, lit< tt), ((lit< tt, lit< tt), refl))

@@ -1,4 +1,5 @@
 //! Examples of the fingerprint, run.
+#![tactic(auto)]
 #[cfg(test)]
 mod tests {
     use monoid::Monoid;

@@ -3,8 +3,8 @@ use Rattle.std.proofs.lemmas.Fmt.{decimal_nonempty}
 use Rattle.decimal.proofs.Steps.{one_long, longer, turn, first}
 use Rattle.decimal.proofs.write.Goals as goal
 
-pub overflow-sub-i : goal.overflow-sub-i
-overflow-sub-i c = omega (arith, decimal_nonempty c.loop-m.m (omega arith))
+pub overflow_sub-i : goal.overflow_sub-i
+overflow_sub-i c = omega (arith, decimal_nonempty c.loop-m.m (omega arith))
 
 pub bounds-out-i : goal.bounds-out-i
 bounds-out-i c = omega (arith, decimal_nonempty c.loop-m.m (omega arith))

@@ -8,8 +8,8 @@ loop-b-preserved g c =
     let m = g.M.Monoid.model in
     let text = c.args.text.now in
     let i = c.loop-b.b-index in
-    let stepped = rw (c.loop-b.invariant.1, c.of-byte.ensures) at c.join-sum.ensures in
-    (omega arith, stepped ∙ fold_more m text i c.loop-b-test.true, all_bytes_more text i c.loop-b-test.true (c.type-inv.text i).fits c.loop-b.invariant.2)
+    let stepped = rw (c.loop-b.invariant.1, c.of_byte.ensures) at c.join-sum.ensures in
+    (omega arith, stepped ∙ fold_more m text i c.loop-b-test.true, all_bytes_more text i c.loop-b-test.true (c.type_inv.text i).fits c.loop-b.invariant.2)
 
 pub returns : goal.returns
 returns g c =

@@ -2,7 +2,7 @@ use Rattle.std.proofs.Common.{◌++◌, get_or, decimal, sym, refl, ◌∙◌, a
 use Rattle.std.specs.Int.{IsInRange}
 use Rattle.netstring.proofs.Runs.{steps, too_long, only_length, some_from, above_limit}
 use Rattle.netstring.proofs.read.further_digits.Goals as goal
-use Rattle.netstring.proofs.read.further_digits.Goals.{in-default, in-default·2, in-default·3}
+use Rattle.netstring.proofs.read.further_digits.Goals.{in_default, in_default-2, in_default-3}
 
 pub loop-rest-init : goal.loop-rest-init
 loop-rest-init c = (refl, omega arith, omega arith)
@@ -18,5 +18,5 @@ returns-then-n-limit-2 c = λ m z le nz e. above_limit c.loop-rest.n m c.args.li
 
 pub returns : goal.returns
 returns c =
-    let no' : IsInRange 48 57 (get_or c.loop-rest.rest.now 0 0) → ⊥ = elim c.if-rest-lt1.branch [ in-default w ↦ (λ h. omega (arith, ltb-true, ltb-false, some_from c.loop-rest.rest.now h.0)) | in-default·2 w ↦ (λ h. omega (arith, ltb-true, ltb-false)) | in-default·3 w ↦ (λ h. omega (arith, ltb-true, ltb-false)) ] in
+    let no' : IsInRange 48 57 (get_or c.loop-rest.rest.now 0 0) → ⊥ = elim c.if-rest-lt1.branch [ in_default w ↦ (λ h. omega (arith, ltb-true, ltb-false, some_from c.loop-rest.rest.now h.0)) | in_default-2 w ↦ (λ h. omega (arith, ltb-true, ltb-false)) | in_default-3 w ↦ (λ h. omega (arith, ltb-true, ltb-false)) ] in
     record { begins = c.loop-rest.invariant.0; within = omega arith; only = λ m z small nz e. only_length c.loop-rest.n m c.loop-rest.rest.now z (omega arith) (omega arith) no' nz (sym c.loop-rest.invariant.0 ∙ e) }

@@ -5,8 +5,8 @@ use Rattle.netstring.proofs.Backs.{reads_back}
 use Rattle.netstring.proofs.write.write.Goals as goal
 use Rattle.netstring.proofs.write.write.Goals.{then-out-k-via-then-out-k, then-out-k-via-else-out-k+then-out-k-2}
 
-pub overflow-add-k : goal.overflow-add-k
-overflow-add-k c = omega (arith, length-decimal-le 20 (length c.args.content.now) (omega arith) (omega arith) (omega arith))
+pub overflow_add-k : goal.overflow_add-k
+overflow_add-k c = omega (arith, length-decimal-le 20 (length c.args.content.now) (omega arith) (omega arith) (omega arith))
 
 pub returns-then-out-k : goal.returns-then-out-k
 returns-then-out-k c =

@@ -12,8 +12,8 @@ returns g c =
     let bs = c.args.text.now in
     let was = s.added.now in
     let n = u + length bs - u in
-    let part = c.copy-from-slice.new.self in
-    let copied : part ≡ bs = c.copy-from-slice.ensures.after in
+    let part = c.copy_from_slice.new.self in
+    let copied : part ≡ bs = c.copy_from_slice.ensures.after in
     let long : length part ≡ n = omega (arith, ap length copied) in
     appended g.M.Monoid.model s _ bs w c.requires.short refl refl refl refl
     (same_len_mid u n was part (omega (arith, ap length copied, length-take n (drop u was), length-drop u was, c.requires.room)))

@@ -4,8 +4,8 @@ use Rattle.rope.proofs.Heights.{height_small}
 use Rattle.rope.proofs.Pushes.{inner_fine}
 use Rattle.rope.proofs.store.Store.push_inner.Goals as goal
 
-pub overflow-add-max : goal.overflow-add-max
-overflow-add-max g c =
+pub overflow_add-max : goal.overflow_add-max
+overflow_add-max g c =
     let s = c.args.self.now in
     let l = c.record-l.ensures in
     let r = c.record-r.ensures in
@@ -17,6 +17,6 @@ push-requires g c =
     record {
       valid = c.requires.valid;
       fine = inner_fine m g.met.M.Monoid.lawful c.args.self.now c.args.left c.args.right c.requires.pairs
-          c.record-l.result c.record-r.result c.max.result c.to-row-row.result c.record-l.ensures c.record-r.ensures c.max.ensures
-          (c.to-row-row.ensures ∙ ap m.row (rw (c.from-row.ensures, c.from-row-2.ensures) at c.join.ensures));
+          c.record-l.result c.record-r.result c.max.result c.to_row-row.result c.record-l.ensures c.record-r.ensures c.max.ensures
+          (c.to_row-row.ensures ∙ ap m.row (rw (c.from_row.ensures, c.from_row-2.ensures) at c.join.ensures));
     }

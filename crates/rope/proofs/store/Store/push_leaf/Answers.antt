@@ -13,6 +13,6 @@ push-requires g c =
     c.bytes.ensures ∙ ap (λ (a : Arena g.row.M-Row.Denot). part a c.args.source c.args.start c.args.count) c.view.ensures in
     record {
       valid = c.requires.valid;
-      fine = leaf_fine m s c.args.source c.args.start c.args.count c.requires.leafs c.to-row.result
-          (c.to-row.ensures ∙ ap m.row (c.fold-value.ensures.value ∙ ap (fold_of m) read)) (ap all_bytes (sym read) ∙ c.fold-value.ensures.bytes);
+      fine = leaf_fine m s c.args.source c.args.start c.args.count c.requires.leafs c.to_row.result
+          (c.to_row.ensures ∙ ap m.row (c.fold-value.ensures.value ∙ ap (fold_of m) read)) (ap all_bytes (sym read) ∙ c.fold-value.ensures.bytes);
     }

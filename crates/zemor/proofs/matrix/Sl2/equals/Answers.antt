@@ -10,5 +10,5 @@ by_rows x y false n = λ e. n (ap row e)
 
 pub returns : goal.returns
 returns c =
-    let rows = rw (c.to-row.ensures, c.to-row-2.ensures) at c.same-entries.ensures in
-    by_rows c.args.self c.args.other c.same-entries.result rows
+    let rows = rw (c.to_row.ensures, c.to_row-2.ensures) at c.same_entries.ensures in
+    by_rows c.args.self c.args.other c.same_entries.result rows

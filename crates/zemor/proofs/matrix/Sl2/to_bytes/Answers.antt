@@ -8,9 +8,9 @@ pub returns : goal.returns
 returns c =
     let quad = λ (w : List ℕ). get_or w 0 0 ∷ get_or w 1 0 ∷ get_or w 2 0 ∷ get_or w 3 0 ∷ [] in
     let x = c.args.self in
-    let a = ap quad c.to-be-bytes.ensures ∙ four_digits x.a in
-    let b = ap quad c.to-be-bytes-2.ensures ∙ four_digits x.b in
-    let cc = ap quad c.to-be-bytes-3.ensures ∙ four_digits x.c in
-    let d = ap quad c.to-be-bytes-4.ensures ∙ four_digits x.d in
+    let a = ap quad c.to_be_bytes.ensures ∙ four_digits x.a in
+    let b = ap quad c.to_be_bytes-2.ensures ∙ four_digits x.b in
+    let cc = ap quad c.to_be_bytes-3.ensures ∙ four_digits x.c in
+    let d = ap quad c.to_be_bytes-4.ensures ∙ four_digits x.d in
     let value : _ ≡ bytes_of (row x) = λ i. a i ++ (b i ++ (cc i ++ d i)) in
     record { value = value; back = ap entries_of value ∙ entries_back x }

@@ -8,6 +8,6 @@ returns c =
     let bs = c.args.bytes.now in
     let n = c.args.at in
     record {
-      value = omega (arith, c.from-be-bytes.ensures, ap (number_from_digits 256) (four_at bs n (omega arith)));
+      value = omega (arith, c.from_be_bytes.ensures, ap (number_from_digits 256) (four_at bs n (omega arith)));
       typed = (c.told-bytes, bytes_by_place bs c.fits-bytes);
     }

@@ -14,4 +14,4 @@ returns c =
     let x = c.args.bits.word in
     let n = c.args.bits.len / 8 in
     let five = λ (w : List ℕ). get_or w 3 0 ∷ get_or w 4 0 ∷ get_or w 5 0 ∷ get_or w 6 0 ∷ get_or w 7 0 ∷ [] in
-    ap (drop (5 - n)) (ap five c.to-be-bytes.ensures ∙ last_five x) ∙ dropped x n (omega arith)
+    ap (drop (5 - n)) (ap five c.to_be_bytes.ensures ∙ last_five x) ∙ dropped x n (omega arith)

@@ -11,4 +11,4 @@ or_one e None n = sym (told_none e n)
 
 pub returns : goal.returns
 returns c =
-    c.unwrap-or.ensures ∙ ap (unwrap_or c.from-entries.result) c.empty.ensures ∙ or_one c.args.row c.from-entries.result c.from-entries.ensures
+    c.unwrap_or.ensures ∙ ap (unwrap_or c.from_entries.result) c.empty.ensures ∙ or_one c.args.row c.from_entries.result c.from_entries.ensures

@@ -2,8 +2,8 @@ use Rattle.zemor.specs.Values.{sl2}
 use Rattle.zemor.specs.Laws.{same, like, four}
 use Rattle.zemor.proofs.matrix.ops.Sl2Monoid.join.Goals as goal
 
-pub invariant-of-result : goal.invariant-of-result
-invariant-of-result c =
+pub invariant_of-result : goal.invariant_of-result
+invariant_of-result c =
     (like (sl2.joined c.args.self c.args.other) _ (four _ _ c.dot.ensures.value c.dot-2.ensures.value c.dot-3.ensures.value c.dot-4.ensures.value), tt)
 
 pub returns : goal.returns
