@@ -1,4 +1,4 @@
 use Rattle.rope_cut.proofs.+back_at.Given as goal
 
-abbrev pub decreases-back-at : goal.decreases-back-at
-decreases-back-at g l = l.i
+abbrev pub decreases-back_at : goal.decreases-back_at
+decreases-back_at g l = l.i

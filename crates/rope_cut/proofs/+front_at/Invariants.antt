@@ -1,4 +1,4 @@
 use Rattle.rope_cut.proofs.+front_at.Given as goal
 
-abbrev pub decreases-front-at : goal.decreases-front-at
-decreases-front-at g l = l.i
+abbrev pub decreases-front_at : goal.decreases-front_at
+decreases-front_at g l = l.i

@@ -10,8 +10,8 @@ back-behind-requires g c =
       free = second_free c.requires.valid c.requires.rooted c.requires.part c.requires.short c.requires.free c.front-before.ensures;
     }
 
-pub join-roots-tail-requires : goal.join-roots-tail-requires
-join-roots-tail-requires g c =
+pub join_roots-tail-requires : goal.join_roots-tail-requires
+join_roots-tail-requires g c =
     record {
       valid = c.back-behind.ensures.takes.valid;
       rooted = tail_rooted c.requires.valid c.requires.rooted c.requires.part c.requires.short c.requires.free c.front-before.ensures c.back-behind.ensures;
@@ -19,14 +19,14 @@ join-roots-tail-requires g c =
       free = tail_free c.requires.valid c.requires.rooted c.requires.part c.requires.short c.requires.free c.front-before.ensures c.back-behind.ensures;
     }
 
-pub join-roots-requires : goal.join-roots-requires
-join-roots-requires g c =
+pub join_roots-requires : goal.join_roots-requires
+join_roots-requires g c =
     record {
-      valid = c.join-roots-tail.ensures.makes.takes.valid;
-      rooted = last_rooted c.requires.valid c.requires.rooted c.requires.part c.requires.short c.requires.free c.front-before.ensures c.back-behind.ensures c.join-roots-tail.ensures.makes;
-      short = last_short c.requires.valid c.requires.rooted c.requires.part c.requires.short c.requires.free c.front-before.ensures c.back-behind.ensures c.join-roots-tail.ensures.makes;
-      free = last_free c.requires.valid c.requires.rooted c.requires.part c.requires.short c.requires.free c.front-before.ensures c.back-behind.ensures c.join-roots-tail.ensures.makes;
+      valid = c.join_roots-tail.ensures.makes.takes.valid;
+      rooted = last_rooted c.requires.valid c.requires.rooted c.requires.part c.requires.short c.requires.free c.front-before.ensures c.back-behind.ensures c.join_roots-tail.ensures.makes;
+      short = last_short c.requires.valid c.requires.rooted c.requires.part c.requires.short c.requires.free c.front-before.ensures c.back-behind.ensures c.join_roots-tail.ensures.makes;
+      free = last_free c.requires.valid c.requires.rooted c.requires.part c.requires.short c.requires.free c.front-before.ensures c.back-behind.ensures c.join_roots-tail.ensures.makes;
     }
 
 pub returns : goal.returns
-returns g c = splice_done c.requires.valid c.requires.rooted c.requires.part c.requires.short c.requires.free c.front-before.ensures c.back-behind.ensures c.join-roots-tail.ensures.makes c.join-roots.ensures.makes
+returns g c = splice_done c.requires.valid c.requires.rooted c.requires.part c.requires.short c.requires.free c.front-before.ensures c.back-behind.ensures c.join_roots-tail.ensures.makes c.join_roots.ensures.makes

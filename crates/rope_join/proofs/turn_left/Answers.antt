@@ -8,11 +8,11 @@ middle-requires g c = record { valid = c.requires.valid; threes = left_threes c.
 pub returns-then-gap-gt0 : goal.returns-then-gap-gt0
 returns-then-gap-gt0 g c = left_doubled c.requires.valid c.requires.joinable c.children-a.ensures c.requires.heavy (omega (arith, c.gap.ensures)) c.middle.ensures
 
-pub push-inner-l-requires : goal.push-inner-l-requires
-push-inner-l-requires g c = record { valid = c.requires.valid; pairs = left_one c.requires.valid c.requires.joinable c.children-a.ensures c.requires.heavy (omega (arith, c.gap.ensures)) }
+pub push_inner-l-requires : goal.push_inner-l-requires
+push_inner-l-requires g c = record { valid = c.requires.valid; pairs = left_one c.requires.valid c.requires.joinable c.children-a.ensures c.requires.heavy (omega (arith, c.gap.ensures)) }
 
-pub push-inner-requires : goal.push-inner-requires
-push-inner-requires g c = record { valid = c.push-inner-l.ensures.takes.valid; pairs = left_two c.requires.valid c.requires.joinable c.children-a.ensures c.requires.heavy (omega (arith, c.gap.ensures)) c.push-inner-l.ensures }
+pub push_inner-requires : goal.push_inner-requires
+push_inner-requires g c = record { valid = c.push_inner-l.ensures.takes.valid; pairs = left_two c.requires.valid c.requires.joinable c.children-a.ensures c.requires.heavy (omega (arith, c.gap.ensures)) c.push_inner-l.ensures }
 
 pub returns : goal.returns
-returns g c = left_done c.requires.valid c.requires.joinable c.children-a.ensures c.requires.heavy (omega (arith, c.gap.ensures)) c.push-inner-l.ensures c.push-inner.ensures
+returns g c = left_done c.requires.valid c.requires.joinable c.children-a.ensures c.requires.heavy (omega (arith, c.gap.ensures)) c.push_inner-l.ensures c.push_inner.ensures

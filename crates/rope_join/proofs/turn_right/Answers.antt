@@ -8,11 +8,11 @@ middle-requires g c = record { valid = c.requires.valid; threes = right_threes c
 pub returns-then-gap-gt0 : goal.returns-then-gap-gt0
 returns-then-gap-gt0 g c = right_doubled c.requires.valid c.requires.joinable c.children-a.ensures c.requires.heavy (omega (arith, c.gap.ensures)) c.middle.ensures
 
-pub push-inner-r-requires : goal.push-inner-r-requires
-push-inner-r-requires g c = record { valid = c.requires.valid; pairs = right_one c.requires.valid c.requires.joinable c.children-a.ensures c.requires.heavy (omega (arith, c.gap.ensures)) }
+pub push_inner-r-requires : goal.push_inner-r-requires
+push_inner-r-requires g c = record { valid = c.requires.valid; pairs = right_one c.requires.valid c.requires.joinable c.children-a.ensures c.requires.heavy (omega (arith, c.gap.ensures)) }
 
-pub push-inner-requires : goal.push-inner-requires
-push-inner-requires g c = record { valid = c.push-inner-r.ensures.takes.valid; pairs = right_two c.requires.valid c.requires.joinable c.children-a.ensures c.requires.heavy (omega (arith, c.gap.ensures)) c.push-inner-r.ensures }
+pub push_inner-requires : goal.push_inner-requires
+push_inner-requires g c = record { valid = c.push_inner-r.ensures.takes.valid; pairs = right_two c.requires.valid c.requires.joinable c.children-a.ensures c.requires.heavy (omega (arith, c.gap.ensures)) c.push_inner-r.ensures }
 
 pub returns : goal.returns
-returns g c = right_done c.requires.valid c.requires.joinable c.children-a.ensures c.requires.heavy (omega (arith, c.gap.ensures)) c.push-inner-r.ensures c.push-inner.ensures
+returns g c = right_done c.requires.valid c.requires.joinable c.children-a.ensures c.requires.heavy (omega (arith, c.gap.ensures)) c.push_inner-r.ensures c.push_inner.ensures

@@ -1,8 +1,8 @@
 use Rattle.rope_keep.proofs.Keepings.{both_rooted, both_short, both_free, longer_grows, longer_text, longer_high}
 use Rattle.rope_keep.proofs.lengthen.Goals as goal
 
-pub join-roots-requires : goal.join-roots-requires
-join-roots-requires g c =
+pub join_roots-requires : goal.join_roots-requires
+join_roots-requires g c =
     record {
       valid = c.keep-more.ensures.grows.valid;
       rooted = both_rooted c.requires.valid c.requires.rooted c.requires.short c.requires.free c.keep-more.ensures.grows c.keep-more.ensures.stands;
@@ -12,7 +12,7 @@ join-roots-requires g c =
 
 pub returns : goal.returns
 returns g c =
-    let j = c.join-roots.ensures in
+    let j = c.join_roots.ensures in
     record {
       grows = longer_grows c.requires.valid c.requires.rooted c.requires.short c.requires.free c.keep-more.ensures.grows c.keep-more.ensures.stands j.makes;
       root = j.makes.root;

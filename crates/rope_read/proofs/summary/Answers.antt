@@ -17,9 +17,9 @@ returns-in-At g c =
     let r = c.record.result in
     let e = c.record.ensures in
     let below : i < length a.records = ltb-true i (length a.records) (subst (λ (p : Root). rooted (length a.records) p ≡ true) c.in-At.is c.requires.root) in
-    let row : r.row ≡ get_or (map (λ (y : Record g.M.Row.Denot). y.row) a.records) i (m.row m.empty) =
-    ap (λ (y : Record g.M.Row.Denot). y.row) e.is ∙ sym (get_or-map (λ (y : Record g.M.Row.Denot). y.row) a.records i r (m.row m.empty) below) in
+    let row : r.row ≡ get_or (map (λ (y : Record g.row.M-Row.Denot). y.row) a.records) i (m.row m.empty) =
+    ap (λ (y : Record g.row.M-Row.Denot). y.row) e.is ∙ sym (get_or-map (λ (y : Record g.row.M-Row.Denot). y.row) a.records i r (m.row m.empty) below) in
     record {
-      kept = c.from-row.ensures ∙ ap m.value row ∙ ap (kept_of m a) (sym c.in-At.is);
-      value = λ w. c.from-row.ensures ∙ ap m.value (e.row w) ∙ g.met.M.Monoid.lawful.back (fold_of m (text (tree_at a i))) ∙ ap (λ (p : Root). fold_of m (text_of a p)) (sym c.in-At.is);
+      kept = c.from_row.ensures ∙ ap m.value row ∙ ap (kept_of m a) (sym c.in-At.is);
+      value = λ w. c.from_row.ensures ∙ ap m.value (e.row w) ∙ g.met.M.Monoid.lawful.back (fold_of m (text (tree_at a i))) ∙ ap (λ (p : Root). fold_of m (text_of a p)) (sym c.in-At.is);
     }

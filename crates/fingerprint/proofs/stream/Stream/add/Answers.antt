@@ -19,5 +19,5 @@ returns c text s =
     record {
       first = joined_folds sl2 zemor.lawful text chunk s.first (ap first folds) (ap first c.join-self.ensures);
       second = joined_folds line_column_model lines.lawful text chunk s.second (ap second folds) (ap second c.join-self.ensures);
-      count = simp length-append (omega (arith, c.saturating-add-self.ensures, s.count));
+      count = simp length-append (omega (arith, c.saturating_add-self.ensures, s.count));
     }

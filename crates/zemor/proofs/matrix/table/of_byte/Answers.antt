@@ -7,7 +7,7 @@ use Rattle.zemor.proofs.matrix.table.of_byte.Goals as goal
 pub invariant_of-result : goal.invariant_of-result
 invariant_of-result c =
     let k = c.args.byte in
-    (like (sl2.of_byte k) _ (four _ _ (c.at.ensures ∙ place_first k) (c.at-2.ensures ∙ place k 1 (lit< tt)) (c.at-3.ensures ∙ place k 2 (lit< tt)) (c.at-4.ensures ∙ place k 3 (lit< tt))), tt)
+    record { valid = like (sl2.of_byte k) _ (four _ _ (c.at.ensures ∙ place_first k) (c.at-2.ensures ∙ place k 1 (lit< tt)) (c.at-3.ensures ∙ place k 2 (lit< tt)) (c.at-4.ensures ∙ place k 3 (lit< tt))) }
 
 pub returns : goal.returns
 returns c =
