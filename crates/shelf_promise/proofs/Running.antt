@@ -41,14 +41,14 @@ answer_taken mark s (Seal d) = refl
 answer_taken mark s (GiveUp d) = refl
 
 -- the shelf s after these calls with these answers
-pub record Going {V R : Type 0} (m : Model V R) (b : Brought) (cs : List Call) (xs : List Answer) (s : Shelf V R) : Type 0 where
+pub record Going {V R : Type 0} {kind : _} (m : Model V R) (b : Brought) (cs : List Call) (xs : List Answer) (s : Shelf V R kind) : Type 0 where
   pub memory : brought (parts s) ≡ b
   pub run : Run b cs xs (strings (parts s)) (told (parts s))
   pub state : strings (parts s) ≡ after b.build nothing cs xs
   pub long : length cs ≡ length xs
   pub summed : Summed m (shelved (parts s)).arena
 
-pub gone : {V R : Type 0} (m : Model V R) → Lawful m → (b : Brought) (cs : List Call) (xs : List Answer) (s : Shelf V R) → Going m b cs xs s → After m b cs xs s
+pub gone : {V R : Type 0} {kind : _} (m : Model V R) → Lawful m → (b : Brought) (cs : List Call) (xs : List Answer) (s : Shelf V R kind) → Going m b cs xs s → After m b cs xs s
 gone m l b cs xs s g = record {
   memory = g.memory;
   run = g.run;
@@ -57,7 +57,7 @@ gone m l b cs xs s g = record {
   folds = documents_fold m l (shelved (parts s)) g.summed s.documents;
 }
 
-module _ {V R : Type 0} (m : Model V R) (b : Brought) (cs : List Call) (xs : List Answer) (s t : Shelf V R) (c : Call) (a : Answer) (g : Going m b cs xs s) where
+module _ {V R : Type 0} {kind : _} (m : Model V R) (b : Brought) (cs : List Call) (xs : List Answer) (s t : Shelf V R kind) (c : Call) (a : Answer) (g : Going m b cs xs s) where
   lengths : length (cs ++ (c ∷ [])) ≡ length (xs ++ (a ∷ []))
   lengths = length-append cs (c ∷ []) ∙ ap (λ n. n + 1) g.long ∙ sym (length-append xs (a ∷ []))
 
@@ -98,7 +98,7 @@ module _ {V R : Type 0} (m : Model V R) (b : Brought) (cs : List Call) (xs : Lis
   going_more step = by_reason (reason b (told (parts s)) (strings (parts s)) c) refl (subst (λ z. Stepped (reason z (told (parts s)) (strings (parts s)) c) m s c a t) g.memory step)
 
 -- a fresh shelf
-module _ {V R : Type 0} (m : Model V R) (s : Shelf V R) (build added : List ℕ) (records : List (Record R)) (places : List Root) (mark : ℕ)
+module _ {V R : Type 0} {kind : _} (m : Model V R) (s : Shelf V R kind) (build added : List ℕ) (records : List (Record R)) (places : List Root) (mark : ℕ)
     (f : Fresh m (parts s) build added records places mark) where
   pub fresh_memory : brought (parts s) ≡ used_of build added records places mark
   fresh_memory = λ i. record {
@@ -148,7 +148,7 @@ module _ {V R : Type 0} (m : Model V R) (s : Shelf V R) (build added : List ℕ)
     places_memory = subst (λ z. Fills 0 t.places.count z t.places.places.now) f.places_memory u.places_memory;
   }
 
-module _ {V R : Type 0} (m : Model V R) (added : List ℕ) (records : List (Record R)) (places : List Root) (s t : Shelf V R) (c : Call) (a : Answer) where
+module _ {V R : Type 0} {kind : _} (m : Model V R) (added : List ℕ) (records : List (Record R)) (places : List Root) (s t : Shelf V R kind) (c : Call) (a : Answer) where
   pub untouched_step : (w : Option Refusal) → Stepped w m s c a t → Untouched (parts s) added records places → Untouched (parts t) added records places
   untouched_step (Some e) step u = subst (λ z. Untouched (parts z) added records places) (sym step.1) u
   untouched_step None step u =
@@ -160,7 +160,7 @@ module _ {V R : Type 0} (m : Model V R) (added : List ℕ) (records : List (Reco
       }
 
 -- the call at place i, whose answer is written there
-pub going_next : {V R : Type 0} (m : Model V R) (b : Brought) (calls : List Call) (xs : List Answer) (i : ℕ) (d : Call) (a : Answer) (s t : Shelf V R)
+pub going_next : {V R : Type 0} {kind : _} (m : Model V R) (b : Brought) (calls : List Call) (xs : List Answer) (i : ℕ) (d : Call) (a : Answer) (s t : Shelf V R kind)
     → i < length calls → i < length xs → Going m b (take i calls) (take i xs) s → Steps m s (get_or calls i d) a t → Going m b (take (i + 1) calls) (take (i + 1) (set xs i a)) t
 going_next m b calls xs i d a s t h k g step =
     subst (λ z. Going m b z (take (i + 1) (set xs i a)) t) (sym (take_more calls i d h))

@@ -63,7 +63,7 @@ document_bytes s w all (suc i) h =
     ap all_bytes (get_or-map (text_of s.arena) s.roots i Empty [] below)
     ∙ root_bytes s.arena (get_or s.roots i Empty) w (fine_at s.arena s.roots i Empty all below)
 
-pub reached_bytes : {V R : Type 0} (m : Model V R) (b : Brought) (calls : List Call) (answers : List Answer) (s : Shelf V R) (d : ℕ) → After m b calls answers s
+pub reached_bytes : {V R : Type 0} {kind : _} (m : Model V R) (b : Brought) (calls : List Call) (answers : List Answer) (s : Shelf V R kind) (d : ℕ) → After m b calls answers s
     → of_document (after b.build nothing calls answers) d ≡ None → all_bytes (text_at (after b.build nothing calls answers) d) ≡ true
 reached_bytes m b calls answers s d w h =
     subst (λ t. unknown t d ≡ false → all_bytes (text_at t d) ≡ true) w.state

@@ -25,7 +25,7 @@ used_of build added records places mark = record {
 }
 
 -- the shelf s after these calls with these answers, over this memory
-pub record After {V R : Type 0} (m : Model V R) (b : Brought) (calls : List Call) (answers : List Answer) (s : Shelf V R) : Type 0 where
+pub record After {V R : Type 0} {kind : _} (m : Model V R) (b : Brought) (calls : List Call) (answers : List Answer) (s : Shelf V R kind) : Type 0 where
   pub memory : brought (parts s) ≡ b
   -- every answer is the one that the list of strings and the reasons give
   pub run : Run b calls answers (strings (parts s)) (told (parts s))
@@ -43,7 +43,7 @@ pub record Untouched {V R : Type 0} (s : Parts V R) (added : List ℕ) (records 
   pub places_memory : Fills 0 s.places.count places s.places.places.now
 
 -- what `replay` leaves: the shelf after the calls, with their answers; or, refused, no answer
-abbrev pub Replayed : {V R : Type 0} → Model V R → List ℕ → List ℕ → List (Record R) → List Root → ℕ → List Call → List Answer → List Answer → Result (Shelf V R) Refusal → Type 0
+abbrev pub Replayed : {V R : Type 0} {kind : _} → Model V R → List ℕ → List ℕ → List (Record R) → List Root → ℕ → List Call → List Answer → List Answer → Result (Shelf V R kind) Refusal → Type 0
 Replayed m build added records places mark calls old new (Ok s) =
     (length calls ≤ length old) × After m (used_of build added records places mark) calls (take (length calls) new) s
     × (drop (length calls) new ≡ drop (length calls) old) × Untouched (parts s) added records places

@@ -68,9 +68,9 @@ abbrev pub draft_text : State → List ℕ
 draft_text s = unwrap_or s.draft []
 
 -- what a view shows
-abbrev pub shown : {V R : Type 0} → View V R → Shelved R
+abbrev pub shown : {V R : Type 0} {kind : _} → View V R kind → Shelved R
 shown v = record { arena = seen v.rope; roots = v.roots.now; draft = v.draft; mark = v.mark; opened = v.opened }
 
 -- the list of strings that a view shows
-abbrev pub strings : {V R : Type 0} → View V R → State
+abbrev pub strings : {V R : Type 0} {kind : _} → View V R kind → State
 strings v = state_of (shown v)

@@ -47,10 +47,10 @@ pub record Firm {V R : Type 0} (s : Parts V R) : Type 0 where
   pub documents : all_fine (arena_of s.store) (kept s.places) ≡ true
   pub drafted : fine (arena_of s.store) (root_in s.draft) ≡ true
 
-pub firm_of : {V R : Type 0} (s : Shelf V R) → Firm (parts s)
+pub firm_of : {V R : Type 0} {kind : _} (s : Shelf V R kind) → Firm (parts s)
 firm_of s = record { bounded = s.bounded; shaped = s.shaped; few = s.few; documents = s.documents; drafted = s.drafted }
 
-pub valid_store : {V R : Type 0} (s : Shelf V R) → Valid s.store
+pub valid_store : {V R : Type 0} {kind : _} (s : Shelf V R kind) → Valid s.store
 valid_store s = valid_of s.bounded s.shaped
 
 -- the facts as the nested pairs of the ghost fields
@@ -141,7 +141,7 @@ pub record Appends {V R : Type 0} (m : Model V R) (s t : Parts V R) (text bs : L
   pub strings_are : strings t ≡ appended (strings s) text (length bs)
   pub changed : Changed m s t bs n
 
-pub append : {V R : Type 0} (m : Model V R) (s : Shelf V R) (store : Store V R) (bs : List ℕ) (n : ℕ) → Grows m s.store store bs n
+pub append : {V R : Type 0} {kind : _} (m : Model V R) (s : Shelf V R kind) (store : Store V R) (bs : List ℕ) (n : ℕ) → Grows m s.store store bs n
     → (places : Places) (root : Root) (text : List ℕ) → Pushes s.places places root → rooted store.used root ≡ true → text_of (arena_of store) root ≡ text
     → Fits (brought (parts s)) (strings (parts s)) text
     → Appends m (parts s) (record { store = store; places = places; draft = s.draft; mark = s.mark; opened = s.opened }) text bs n
@@ -157,7 +157,7 @@ append m s store bs n g places root text p r is fits =
     }
 
 -- an accepted call that appends a document
-pub appended_step : {V R : Type 0} (m : Model V R) (s t : Shelf V R) (call : Call) (k : ℕ) (text : List ℕ)
+pub appended_step : {V R : Type 0} {kind : _} (m : Model V R) (s t : Shelf V R kind) (call : Call) (k : ℕ) (text : List ℕ)
     → reason (brought (parts s)) (told (parts s)) (strings (parts s)) call ≡ None → k ≡ s.places.count + 1
     → answer s.mark (strings (parts s)) call ≡ Made (length (strings (parts s)).texts)
     → accepted s.store.build.now call (strings (parts s)) ≡ appended (strings (parts s)) text (length (brings call))

@@ -44,13 +44,13 @@ still m s d o = record {
   sums = λ x. x;
 }
 
-pub open_step : {V R : Type 0} (m : Model V R) (s t : Shelf V R) → reason (brought (parts s)) (told (parts s)) (strings (parts s)) Open ≡ None
+pub open_step : {V R : Type 0} {kind : _} (m : Model V R) (s t : Shelf V R kind) → reason (brought (parts s)) (told (parts s)) (strings (parts s)) Open ≡ None
     → parts t ≡ record { store = s.store; places = s.places; draft = Some Empty; mark = s.mark; opened = s.opened + 1 }
     → Steps m s Open (Opened (record { mark = s.mark; count = s.opened + 1 })) t
 open_step m s t none is =
     rw none (refl, ap strings is, subst (λ p. Changed m (parts s) p [] 0) (sym is) (still m (parts s) (Some Empty) (s.opened + 1)))
 
-module _ {V R : Type 0} (m : Model V R) (s : Shelf V R) (d : DraftId) (text : Bor (List ℕ)) (p root : Root) (store : Store V R)
+module _ {V R : Type 0} {kind : _} (m : Model V R) (s : Shelf V R kind) (d : DraftId) (text : Bor (List ℕ)) (p root : Root) (store : Store V R)
     (none : reason (brought (parts s)) (told (parts s)) (strings (parts s)) (Add d text) ≡ None) (drafts : Drafts m (shelved (parts s)) p)
     (g : Grows m s.store store text.now (add_need (height_in s.store p) (length text.now)))
     (r : rooted store.used root ≡ true) (is : text_in store root ≡ text_in s.store p ++ text.now) where
@@ -75,7 +75,7 @@ module _ {V R : Type 0} (m : Model V R) (s : Shelf V R) (d : DraftId) (text : Bo
     drafted = fine_root store g.valid root r short_after;
   }
 
-  pub add_step : (t : Shelf V R) → parts t ≡ longer_draft → Steps m s (Add d text) Done t
+  pub add_step : (t : Shelf V R kind) → parts t ≡ longer_draft → Steps m s (Add d text) Done t
   add_step t same =
       let texts = texts_stay s.store store (valid_store s) g.valid g.keeps (kept s.places) s.documents in
       let more : length (arena_of store).added ≡ length (arena_of s.store).added + length text.now = ap length g.added ∙ length-append (arena_of s.store).added text.now in
@@ -95,7 +95,7 @@ module _ {V R : Type 0} (m : Model V R) (s : Shelf V R) (d : DraftId) (text : Bo
       } in
       rw none (refl, ap strings same ∙ after, subst (λ q. Changed m (parts s) q text.now (need (told (parts s)) (Add d text))) (sym same) changed)
 
-module _ {V R : Type 0} (m : Model V R) (s : Shelf V R) (d : DraftId) (p : Root) (places : Places)
+module _ {V R : Type 0} {kind : _} (m : Model V R) (s : Shelf V R kind) (d : DraftId) (p : Root) (places : Places)
     (none : reason (brought (parts s)) (told (parts s)) (strings (parts s)) (Seal d) ≡ None) (drafts : Drafts m (shelved (parts s)) p)
     (pushes : Pushes s.places places p) where
   abbrev pub sealed_shelf : Parts V R
@@ -111,7 +111,7 @@ module _ {V R : Type 0} (m : Model V R) (s : Shelf V R) (d : DraftId) (p : Root)
   firm_sealed =
       firm_after (parts s) (firm_of s) (valid_store s) s.store [] 0 grows places p (draft_text (strings (parts s))) pushes drafts.fine_root (sym drafts.text_is) free None refl
 
-  pub seal_step : (t : Shelf V R) (k : ℕ) → parts t ≡ sealed_shelf → k ≡ s.places.count + 1 → Steps m s (Seal d) (Made k) t
+  pub seal_step : (t : Shelf V R kind) (k : ℕ) → parts t ≡ sealed_shelf → k ≡ s.places.count + 1 → Steps m s (Seal d) (Made k) t
   seal_step t k same n =
       let after = strings_after (parts s) (firm_of s) (valid_store s) s.store [] 0 grows places p (draft_text (strings (parts s))) pushes drafts.fine_root (sym drafts.text_is) free in
       let changed = changed_after (parts s) (firm_of s) (valid_store s) s.store [] 0 grows places p (draft_text (strings (parts s))) pushes drafts.fine_root (sym drafts.text_is) free None in

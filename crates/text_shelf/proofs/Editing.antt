@@ -19,7 +19,7 @@ use Rattle.text_shelf.specs.declared.places.Places.{Places}
 use Rattle.text_shelf.specs.declared.shelf.Shelf.{Shelf}
 use Rattle.text_shelf.proofs.Appending.{Appends, Pushes, append, takes_grows, cut_fits, splice_fits}
 
-module _ {V R : Type 0} (m : Model V R) (s : Shelf V R) (store : Store V R) (places : Places) (root : Root) (pushes : Pushes s.places places root) where
+module _ {V R : Type 0} {kind : _} (m : Model V R) (s : Shelf V R kind) (store : Store V R) (places : Places) (root : Root) (pushes : Pushes s.places places root) where
   abbrev pub after : Parts V R
   after = record { store = store; places = places; draft = s.draft; mark = s.mark; opened = s.opened }
 

@@ -19,7 +19,7 @@ pub record Parts (V R : Type 0) : Type 0 where
   pub mark : ℕ
   pub opened : ℕ
 
-abbrev pub parts : {V R : Type 0} → Shelf V R → Parts V R
+abbrev pub parts : {V R : Type 0} {kind : _} → Shelf V R kind → Parts V R
 parts s = record { store = s.store; places = s.places; draft = s.draft; mark = s.mark; opened = s.opened }
 
 abbrev pub shelved : {V R : Type 0} → Parts V R → Shelved R

@@ -39,14 +39,14 @@ pub record Changed {V R : Type 0} (m : Model V R) (s t : Parts V R) (bs : List �
 
 -- what a call does, by the reason to refuse it: it answers that refusal, and the whole shelf with all its memory is as
 -- it was; or, where there is none, it answers and leaves what the list of strings says
-abbrev pub Stepped : {V R : Type 0} → Option Refusal → Model V R → Shelf V R → Call → Answer → Shelf V R → Type 0
+abbrev pub Stepped : {V R : Type 0} {kind : _} → Option Refusal → Model V R → Shelf V R kind → Call → Answer → Shelf V R kind → Type 0
 Stepped (Some e) m s call a t = (a ≡ Refused e) × (t ≡ s)
 Stepped None m s call a t =
     (a ≡ answer s.mark (strings (parts s)) call)
     × (strings (parts t) ≡ accepted s.store.build.now call (strings (parts s)))
     × Changed m (parts s) (parts t) (brings call) (need (told (parts s)) call)
 
-abbrev pub Steps : {V R : Type 0} → Model V R → Shelf V R → Call → Answer → Shelf V R → Type 0
+abbrev pub Steps : {V R : Type 0} {kind : _} → Model V R → Shelf V R kind → Call → Answer → Shelf V R kind → Type 0
 Steps m s call a t = Stepped (reason (brought (parts s)) (told (parts s)) (strings (parts s)) call) m s call a t
 
 -- answers of the public calls

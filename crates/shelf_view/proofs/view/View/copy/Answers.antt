@@ -5,6 +5,6 @@ use Rattle.shelf_view.proofs.view.View.copy.Goals as goal
 
 pub returns : goal.returns
 returns g c =
-    let part = c.in-ok-part.ensures in
-    copied g.M.Monoid.model (shown c.args.self.now) c.args.d c.args.a c.args.b c.in-ok-part.part c.args.out.now _
-    part.0 part.1 (omega arith) c.copy-part.ensures
+    let part = c.in_ok-part.ensures in
+    copied g.M.Monoid.model (shown c.args.self.now) c.args.d c.args.a c.args.b c.in_ok-part.part c.args.out.now _
+    part.0 part.1 (omega arith) c.copy_part.ensures

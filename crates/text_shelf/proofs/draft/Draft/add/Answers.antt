@@ -3,16 +3,16 @@ use Rattle.text_shelf.proofs.Appending.{ghosts}
 use Rattle.text_shelf.proofs.Drafting.{firm_longer, add_step}
 use Rattle.text_shelf.proofs.draft.Draft.add.Goals as goal
 
-pub invariant-of-shelf : goal.invariant-of-shelf
-invariant-of-shelf g c =
-    let draft = c.in-ok-root.ensures in
+pub invariant_of-shelf : goal.invariant_of-shelf
+invariant_of-shelf g c =
+    let draft = c.in_ok-root.ensures in
     let made = c.lengthen.ensures in
-    ghosts (firm_longer g.M.Monoid.model c.args.shelf.now c.args.self.now.id c.args.text c.in-ok-root.root c.lengthen.result c.lengthen.new.store
+    ghosts (firm_longer g.M.Monoid.model c.args.shelf.now c.args.self.now.id c.args.text c.in_ok-root.root c.lengthen.result c.lengthen.new.store
     draft.0 draft.1 made.grows made.root made.text)
 
 pub returns : goal.returns
 returns g c =
-    let draft = c.in-ok-root.ensures in
+    let draft = c.in_ok-root.ensures in
     let made = c.lengthen.ensures in
-    add_step g.M.Monoid.model c.args.shelf.now c.args.self.now.id c.args.text c.in-ok-root.root c.lengthen.result c.lengthen.new.store
+    add_step g.M.Monoid.model c.args.shelf.now c.args.self.now.id c.args.text c.in_ok-root.root c.lengthen.result c.lengthen.new.store
     draft.0 draft.1 made.grows made.root made.text _ refl

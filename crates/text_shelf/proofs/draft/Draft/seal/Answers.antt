@@ -12,8 +12,8 @@ push-requires g c =
     let s = parts c.args.shelf.now in
     (unspent s (firm_of c.args.shelf.now) (first_none (reasons (brought s) (told s) (strings s) (Seal c.args.self.id)) c.in-Ok.ensures.0).1.0).0
 
-pub invariant-of-shelf : goal.invariant-of-shelf
-invariant-of-shelf g c =
+pub invariant_of-shelf : goal.invariant_of-shelf
+invariant_of-shelf g c =
     let draft = c.in-Ok.ensures in
     let push = c.push.ensures in
     ghosts (firm_sealed g.M.Monoid.model c.args.shelf.now c.args.self.id c.in-Ok.root c.push.new.self draft.0 draft.1

@@ -10,22 +10,22 @@ use Rattle.text_shelf.proofs.shelf.Shelf.cut.Goals as goal
 pub push-requires : goal.push-requires
 push-requires g c =
     let s = parts c.args.self.now in
-    let part = c.in-ok-part.ensures in
+    let part = c.in_ok-part.ensures in
     let lies = part.1.lies in
     (unspent s (firm_of c.args.self.now) (cut_fits (brought s) (told s) (strings s) c.args.d c.args.from c.args.to
-    (omega (arith, ap length lies.text_is, short_of (arena_of s.store) c.in-ok-part.part.root lies.fine_root)) part.0).free).0
+    (omega (arith, ap length lies.text_is, short_of (arena_of s.store) c.in_ok-part.part.root lies.fine_root)) part.0).free).0
 
-pub invariant-of-self : goal.invariant-of-self
-invariant-of-self g c =
-    let part = c.in-ok-part.ensures in
+pub invariant_of-self : goal.invariant_of-self
+invariant_of-self g c =
+    let part = c.in_ok-part.ensures in
     let push = c.push.ensures in
     ghosts (cut_appends g.M.Monoid.model c.args.self.now c.cut-root.new.store c.push.new.self c.cut-root.result
-    (record { count = push.count; kept_is = push.kept; fills = push.fills }) c.args.d c.args.from c.args.to c.in-ok-part.part part.1 part.0 c.cut-root.ensures).firm
+    (record { count = push.count; kept_is = push.kept; fills = push.fills }) c.args.d c.args.from c.args.to c.in_ok-part.part part.1 part.0 c.cut-root.ensures).firm
 
 pub returns : goal.returns
 returns g c =
-    let part = c.in-ok-part.ensures in
+    let part = c.in_ok-part.ensures in
     let push = c.push.ensures in
     appended_step g.M.Monoid.model c.args.self.now _ (Cut c.args.d c.args.from c.args.to) c.push.result _ part.0 push.value refl refl
     (cut_appends g.M.Monoid.model c.args.self.now c.cut-root.new.store c.push.new.self c.cut-root.result
-    (record { count = push.count; kept_is = push.kept; fills = push.fills }) c.args.d c.args.from c.args.to c.in-ok-part.part part.1 part.0 c.cut-root.ensures)
+    (record { count = push.count; kept_is = push.kept; fills = push.fills }) c.args.d c.args.from c.args.to c.in_ok-part.part part.1 part.0 c.cut-root.ensures)

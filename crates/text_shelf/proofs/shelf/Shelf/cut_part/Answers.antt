@@ -6,26 +6,26 @@ use Rattle.text_shelf.specs.Shelves.{parts, shelved, brought, told}
 use Rattle.text_shelf.proofs.Reasoning.{cut_refused, cut_decided}
 use Rattle.text_shelf.proofs.shelf.Shelf.cut_part.Goals as goal
 
-pub returns-in-err-part : goal.returns-in-err-part
-returns-in-err-part g c =
+pub returns-in_err-part : goal.returns-in_err-part
+returns-in_err-part g c =
     let s = parts c.args.self.now in
-    let p = err_from_is_err_and c.from-residual.result c.from-residual.ensures.1 in
-    rw (p.1, p.2) (cut_refused (brought s) (told s) (shown c.view-view.result) (shelved s) c.view-view.ensures c.args.d c.args.from c.args.to _ c.in-err-part.ensures)
+    let p = err_from_is_err_and c.from_residual.result c.from_residual.ensures.1 in
+    rw (p.1, p.2) (cut_refused (brought s) (told s) (shown c.view-view.result) (shelved s) c.view-view.ensures c.args.d c.args.from c.args.to _ c.in_err-part.ensures)
 
 pub returns-in-Some : goal.returns-in-Some
 returns-in-Some g c =
     let s = parts c.args.self.now in
-    let high = c.in-ok-high.ensures.1.0 ∙ ap (λ z. get_or (heights_of z) c.args.d 0) c.view-view.ensures in
-    cut_decided (brought s) (told s) (shown c.view-view.result) (shelved s) c.view-view.ensures c.args.d c.args.from c.args.to c.in-ok-high.high _
-    c.in-ok-part.ensures.0 high c.in-Some.ensures
+    let high = c.in_ok-high.ensures.1.0 ∙ ap (λ z. get_or (heights_of z) c.args.d 0) c.view-view.ensures in
+    cut_decided (brought s) (told s) (shown c.view-view.result) (shelved s) c.view-view.ensures c.args.d c.args.from c.args.to c.in_ok-high.high _
+    c.in_ok-part.ensures.0 high c.in-Some.ensures
 
 pub returns-in-None : goal.returns-in-None
 returns-in-None g c =
     let s = parts c.args.self.now in
     let same = c.view-view.ensures in
-    let part = c.in-ok-part.ensures in
-    let high = c.in-ok-high.ensures.1.0 ∙ ap (λ z. get_or (heights_of z) c.args.d 0) same in (
-      cut_decided (brought s) (told s) (shown c.view-view.result) (shelved s) same c.args.d c.args.from c.args.to c.in-ok-high.high _
+    let part = c.in_ok-part.ensures in
+    let high = c.in_ok-high.ensures.1.0 ∙ ap (λ z. get_or (heights_of z) c.args.d 0) same in (
+      cut_decided (brought s) (told s) (shown c.view-view.result) (shelved s) same c.args.d c.args.from c.args.to c.in_ok-high.high _
           part.0 high c.in-None.ensures,
-      subst (λ z. Span g.M.Monoid.model z c.args.d c.args.from c.args.to c.in-ok-part.part) same part.1,
+      subst (λ z. Span g.M.Monoid.model z c.args.d c.args.from c.args.to c.in_ok-part.part) same part.1,
     )

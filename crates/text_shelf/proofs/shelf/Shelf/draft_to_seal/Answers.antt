@@ -15,13 +15,13 @@ returns-then-room-count g c =
     let s = parts c.args.self.now in
     let n = count_texts s c.args.self.now.few.0 in
     let full : numbers_spent (brought s) (strings s) ≡ true = grind (arith, nat_tests) in
-    seal_decided (brought s) (told s) (shown c.view.result) (shelved s) c.view.ensures c.args.id c.in-ok-root.ensures.0 refl _ (first_is NumbersSpent [] full)
+    seal_decided (brought s) (told s) (shown c.view.result) (shelved s) c.view.ensures c.args.id c.in_ok-root.ensures.0 refl _ (first_is NumbersSpent [] full)
 
 pub returns : goal.returns
 returns g c =
     let s = parts c.args.self.now in
     let n = count_texts s c.args.self.now.few.0 in
     let room : numbers_spent (brought s) (strings s) ≡ false = grind (arith, nat_tests) in (
-      seal_decided (brought s) (told s) (shown c.view.result) (shelved s) c.view.ensures c.args.id c.in-ok-root.ensures.0 refl _ (first_not NumbersSpent [] room),
-      subst (λ z. Drafts g.M.Monoid.model z c.in-ok-root.root) c.view.ensures c.in-ok-root.ensures.1,
+      seal_decided (brought s) (told s) (shown c.view.result) (shelved s) c.view.ensures c.args.id c.in_ok-root.ensures.0 refl _ (first_not NumbersSpent [] room),
+      subst (λ z. Drafts g.M.Monoid.model z c.in_ok-root.root) c.view.ensures c.in_ok-root.ensures.1,
     )

@@ -8,21 +8,21 @@ use Rattle.text_shelf.proofs.shelf.Shelf.splice.Goals as goal
 pub push-requires : goal.push-requires
 push-requires g c =
     let s = parts c.args.self.now in
-    (unspent s (firm_of c.args.self.now) (splice_fits (brought s) (told s) (strings s) c.args.d c.args.from c.args.to c.args.other c.in-ok-part.ensures.0).free).0
+    (unspent s (firm_of c.args.self.now) (splice_fits (brought s) (told s) (strings s) c.args.d c.args.from c.args.to c.args.other c.in_ok-part.ensures.0).free).0
 
-pub invariant-of-self : goal.invariant-of-self
-invariant-of-self g c =
-    let both = c.in-ok-part.ensures in
+pub invariant_of-self : goal.invariant_of-self
+invariant_of-self g c =
+    let both = c.in_ok-part.ensures in
     let push = c.push.ensures in
     ghosts (splice_appends g.M.Monoid.model c.args.self.now c.splice-root.new.store c.push.new.self c.splice-root.result
-    (record { count = push.count; kept_is = push.kept; fills = push.fills }) c.args.d c.args.from c.args.to c.in-ok-part.part both.1.0
-    c.args.other c.in-ok-part.more both.1.1 both.0 c.splice-root.ensures).firm
+    (record { count = push.count; kept_is = push.kept; fills = push.fills }) c.args.d c.args.from c.args.to c.in_ok-part.part both.1.0
+    c.args.other c.in_ok-part.more both.1.1 both.0 c.splice-root.ensures).firm
 
 pub returns : goal.returns
 returns g c =
-    let both = c.in-ok-part.ensures in
+    let both = c.in_ok-part.ensures in
     let push = c.push.ensures in
     appended_step g.M.Monoid.model c.args.self.now _ (Splice c.args.d c.args.from c.args.to c.args.other) c.push.result _ both.0 push.value refl refl
     (splice_appends g.M.Monoid.model c.args.self.now c.splice-root.new.store c.push.new.self c.splice-root.result
-    (record { count = push.count; kept_is = push.kept; fills = push.fills }) c.args.d c.args.from c.args.to c.in-ok-part.part both.1.0
-    c.args.other c.in-ok-part.more both.1.1 both.0 c.splice-root.ensures)
+    (record { count = push.count; kept_is = push.kept; fills = push.fills }) c.args.d c.args.from c.args.to c.in_ok-part.part both.1.0
+    c.args.other c.in_ok-part.more both.1.1 both.0 c.splice-root.ensures)

@@ -4,5 +4,5 @@ use Rattle.shelf_view.proofs.view.marked.View+Pair+Sl2+LineColumn.around.Goals a
 
 pub returns : goal.returns
 returns c k =
-    around (shown c.args.self.now) c.args.part c.fold-part-front.result c.fold-part-back.result c.len.result c.len.ensures
-    (c.fold-part-front.ensures k) (c.fold-part-back.ensures k)
+    around (shown c.args.self.now) c.args.part c.fold_part-front.result c.fold_part-back.result c.len.result c.len.ensures
+    (c.fold_part-front.ensures k) (c.fold_part-back.ensures k)
