@@ -53,11 +53,15 @@ firm_of s = record { bounded = s.bounded; shaped = s.shaped; few = s.few; docume
 pub valid_store : {V R : Type 0} {kind : _} (s : Shelf V R kind) → Valid s.store
 valid_store s = valid_of s.bounded s.shaped
 
--- the facts as the nested pairs of the ghost fields
-pub ghosts : {V R : Type 0} {s : Parts V R} (f : Firm s)
-    → Held s.store × (Shaped (arena_of s.store) × (((s.places.count ≤ length s.places.places.now) × (s.places.count ≤ 4095))
-    × ((all_fine (arena_of s.store) (kept s.places) ≡ true) × ((fine (arena_of s.store) (root_in s.draft) ≡ true) × Unit {0}))))
-ghosts f = (f.bounded, (f.shaped, (f.few, (f.documents, (f.drafted, tt)))))
+-- the facts as the ghost fields
+pub ghosts : {V R : Type 0} {s : Parts V R} (f : Firm s) → record {
+  bounded : Held s.store;
+  shaped : Shaped (arena_of s.store);
+  few : (s.places.count ≤ length s.places.places.now) × (s.places.count ≤ 4095);
+  documents : all_fine (arena_of s.store) (kept s.places) ≡ true;
+  drafted : fine (arena_of s.store) (root_in s.draft) ≡ true;
+}
+ghosts f = record { bounded = f.bounded; shaped = f.shaped; few = f.few; documents = f.documents; drafted = f.drafted }
 
 -- a place is free
 pub unspent : {V R : Type 0} (s : Parts V R) → Firm s → numbers_spent (brought s) (strings s) ≡ false
