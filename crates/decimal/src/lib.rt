@@ -1,5 +1,6 @@
 //! Numbers written in decimal: no leading zeros, and 0 as "0".
 #![tactic(auto)]
+
 ghost use Rattle.std.specs.Prelude.{◌≡◌, length, decimal};
 ghost use Rattle.decimal.specs.Decimal.{Wrote};
 

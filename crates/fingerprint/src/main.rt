@@ -1,5 +1,6 @@
 //! Prints the fingerprint of standard input, how many bytes it has, and its lines and columns.
 #![tactic(auto)]
+
 mod stream;
 
 use monoid::Monoid;

@@ -20,7 +20,7 @@ impl Stream {
         ensures { Sums result [] }
     {
         Stream {
-            summary: <Pair<_, _> as Monoid>::empty(),
+            summary: Pair::empty(),
             bytes: 0,
         }
     }

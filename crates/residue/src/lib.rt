@@ -1,5 +1,6 @@
 //! Numbers modulo the prime p = 2^31 - 1. An inner crate: its callers keep their numbers below p.
 #![tactic(auto)]
+
 ghost use Rattle.std.specs.Prelude.{◌≡◌, ◌+◌, ◌*◌, ◌%◌, ◌<◌};
 ghost use Rattle.residue.specs.Residue.{prime, dot as row_by_column, minus};
 

@@ -1,5 +1,6 @@
 //! Balanced trees of text over memory that the caller lends.
 #![tactic(auto)]
+
 pub mod record;
 pub mod store;
 pub mod view;

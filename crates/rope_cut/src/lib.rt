@@ -1,5 +1,6 @@
 //! Parts of trees as trees: fronts and backs, and the edits that are made of them.
 #![tactic(auto)]
+
 ghost use Rattle.std.specs.Prelude.{◌+◌, ◌-◌, ◌*◌, ◌^◌, ◌<◌, ◌≤◌, ◌++◌, length, take, drop};
 ghost use Rattle.std.specs.List.{between};
 ghost use Rattle.rope.specs.Tree.{text, size};

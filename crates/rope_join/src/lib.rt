@@ -1,5 +1,6 @@
 //! The join of two trees of any heights, with rotations.
 #![tactic(auto)]
+
 ghost use Rattle.std.specs.Prelude.{◌≡◌, ◌+◌, ◌-◌, ◌<◌, ◌≤◌};
 ghost use Rattle.rope.specs.Tree.{height};
 ghost use Rattle.rope.specs.Arena.{Splits};

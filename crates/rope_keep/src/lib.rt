@@ -1,5 +1,6 @@
 //! New texts: one that is brought, one that is a part of the build text, and one behind another.
 #![tactic(auto)]
+
 ghost use Rattle.std.specs.Prelude.{◌≡◌, ◌+◌, ◌^◌, ◌<◌, ◌≤◌, max, true, ◌++◌, length, take, drop};
 ghost use Rattle.rope.specs.Arena.{rooted};
 ghost use Rattle.rope.specs.Memory.{Valid, Free, Takes};

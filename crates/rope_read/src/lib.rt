@@ -1,5 +1,6 @@
 //! Questions about a text, over the used memory of an open or of a closed store.
 #![tactic(auto)]
+
 ghost use Rattle.std.specs.Prelude.{◌≡◌, ◌+◌, ◌-◌, ◌<◌, ◌≤◌, true, ◌++◌, length, drop, slice_index};
 ghost use Rattle.std.specs.List.{between};
 ghost use Rattle.monoid.specs.Monoid.{fold_of};

@@ -1,5 +1,6 @@
 //! The shelf on examples: its refusals at their edges, and its documents, drafts and questions.
 #![tactic(auto)]
+
 #[cfg(test)]
 mod calls;
 #[cfg(test)]

@@ -1,5 +1,6 @@
 //! Reading a text shelf: every question, of an open shelf and of a closed one.
 #![tactic(auto)]
+
 pub mod draft_id;
 pub mod refusal;
 pub mod sameness;

@@ -1,5 +1,6 @@
 //! Examples of the fingerprint, run.
 #![tactic(auto)]
+
 #[cfg(test)]
 mod tests {
     use monoid::Monoid;
@@ -26,7 +27,7 @@ mod tests {
 
     // Whether reading back between `front` and `back` tells just `window`.
     fn tells(front: &[u8], wanted: Entries, back: &[u8], window: &[u8]) -> bool {
-        let whole = <Sl2 as Monoid>::from_row(wanted);
+        let whole = Sl2::from_row(wanted);
         match read_back(fingerprint(front), whole, fingerprint(back)) {
             Some(w) => w.as_slice() == window,
             None => false,
@@ -35,13 +36,13 @@ mod tests {
 
     // Whether reading back between `front` and `back` finds no window.
     fn tells_none(front: &[u8], wanted: Entries, back: &[u8]) -> bool {
-        let whole = <Sl2 as Monoid>::from_row(wanted);
+        let whole = Sl2::from_row(wanted);
         read_back(fingerprint(front), whole, fingerprint(back)).is_none()
     }
 
     // The word and the length of the bits that are told, or (0, 99) for none.
     fn peeled(e: Entries) -> (u64, u32) {
-        match peel(<Sl2 as Monoid>::from_row(e)) {
+        match peel(Sl2::from_row(e)) {
             Some(s) => (s.word, s.len),
             None => (0, 99),
         }
@@ -92,7 +93,7 @@ mod tests {
     #[test]
     fn reads_digits(rt: HostRuntime) {
         let ab = fingerprint(b"ab");
-        assert!(rt; ab.to_hex().as_slice() == b"0000014500000240000000e00000018d");
+        assert!(rt; ab.to_hex().as_slice() == b"0000014500000240000000e00000018d".as_slice());
         assert_eq!(rt;
             read(b"0000014500000240000000e00000018d"),
             Some(ab.to_row())

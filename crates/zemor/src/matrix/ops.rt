@@ -47,7 +47,7 @@ impl Monoid for Sl2 {
     }
 
     fn from_row(row: Entries) -> Sl2 {
-        Sl2::from_entries(row).unwrap_or(<Sl2 as Monoid>::empty())
+        Sl2::from_entries(row).unwrap_or(Sl2::empty())
     }
 }
 
