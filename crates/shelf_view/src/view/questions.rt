@@ -10,49 +10,48 @@ use super::View;
 use crate::draft_id::DraftId;
 use crate::refusal::Refusal;
 use monoid::Monoid;
-use rope_read as rope;
 
 impl<'v, M: Monoid> View<'v, M> {
     /// How many bytes document `d` has.
     pub fn len(&self, d: u32) -> Result<usize, Refusal>
         ensures { Answers (of_document (strings self.now) d) (λ n. n ≡ length (text_at (strings self.now) d)) result }
     {
-        Ok(rope::len(self.rope, self.root(d)?) as usize)
+        Ok(rope_read::len(self.rope, self.root(d)?) as usize)
     }
 
     /// How high the tree of document `d` is: at most 28.
     pub fn height(&self, d: u32) -> Result<u8, Refusal>
         ensures { Answers (of_document (strings self.now) d) (λ h. (h ≡ slice_index (heights_of (shown self.now)) d) × (h ≤ 28)) result }
     {
-        Ok(rope::height(self.rope, self.root(d)?))
+        Ok(rope_read::height(self.rope, self.root(d)?))
     }
 
     /// The summary of document `d`: the value kept at its top.
     pub fn summary(&self, d: u32) -> Result<M, Refusal>
         ensures { Answers (of_document (strings self.now) d) (λ v. (v ≡ slice_index_or (kept_values M.Monoid.model (shown self.now)) d M.Monoid.model.empty) × (Summed M.Monoid.model (shown self.now).arena → v ≡ fold_of M.Monoid.model (text_at (strings self.now) d))) result }
     {
-        Ok(rope::summary(self.rope, self.root(d)?))
+        Ok(rope_read::summary(self.rope, self.root(d)?))
     }
 
     /// How many bytes the open draft has.
     pub fn draft_len(&self, id: DraftId) -> Result<usize, Refusal>
         ensures { Answers (of_draft (strings self.now) self.now.mark id) (λ n. n ≡ length (draft_text (strings self.now))) result }
     {
-        Ok(rope::len(self.rope, self.draft_root(id)?) as usize)
+        Ok(rope_read::len(self.rope, self.draft_root(id)?) as usize)
     }
 
     /// How high the tree of the open draft is: at most 28.
     pub fn draft_height(&self, id: DraftId) -> Result<u8, Refusal>
         ensures { Answers (of_draft (strings self.now) self.now.mark id) (λ h. (h ≡ height_of_draft (shown self.now)) × (h ≤ 28)) result }
     {
-        Ok(rope::height(self.rope, self.draft_root(id)?))
+        Ok(rope_read::height(self.rope, self.draft_root(id)?))
     }
 
     /// The summary of the open draft: the value kept at its top.
     pub fn draft_summary(&self, id: DraftId) -> Result<M, Refusal>
         ensures { Answers (of_draft (strings self.now) self.now.mark id) (λ v. (v ≡ draft_value M.Monoid.model (shown self.now)) × (Summed M.Monoid.model (shown self.now).arena → v ≡ fold_of M.Monoid.model (draft_text (strings self.now)))) result }
     {
-        Ok(rope::summary(self.rope, self.draft_root(id)?))
+        Ok(rope_read::summary(self.rope, self.draft_root(id)?))
     }
 
     /// The byte at place `i` of document `d`.
@@ -60,10 +59,10 @@ impl<'v, M: Monoid> View<'v, M> {
         ensures { Answers (of_byte (strings self.now) d i) (λ b. b ≡ slice_index (text_at (strings self.now) d) i) result }
     {
         let root = self.root(d)?;
-        if i >= rope::len(self.rope, root) as usize {
+        if i >= rope_read::len(self.rope, root) as usize {
             return Err(Refusal::BadPart);
         }
-        Ok(rope::byte(self.rope, root, i as u32))
+        Ok(rope_read::byte(self.rope, root, i as u32))
     }
 
     /// The summary of the part `a` to `b` of document `d`.
@@ -71,7 +70,7 @@ impl<'v, M: Monoid> View<'v, M> {
         ensures { Answers (of_part (strings self.now) d a b) (λ v. Summed M.Monoid.model (shown self.now).arena → v ≡ fold_of M.Monoid.model (between a b (text_at (strings self.now) d))) result }
     {
         let part = self.part(d, a, b)?;
-        Ok(rope::fold_part(self.rope, part.root, part.from, part.to))
+        Ok(rope_read::fold_part(self.rope, part.root, part.from, part.to))
     }
 
     /// Writes the part `a` to `b` of document `d` at the start of `out`, and answers its length. What lies behind stays.
@@ -83,7 +82,7 @@ impl<'v, M: Monoid> View<'v, M> {
         if out.len() < n {
             return Err(Refusal::SmallBuffer);
         }
-        rope::copy_part(self.rope, part.root, part.from, part.to, out);
+        rope_read::copy_part(self.rope, part.root, part.from, part.to, out);
         Ok(n)
     }
 
