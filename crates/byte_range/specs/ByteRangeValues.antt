@@ -1,6 +1,6 @@
 -- The values are the rows of two bytes.
 use Rattle.std.proofs.Math.Logic.Dec.{and}
-use Rattle.std.specs.Prelude.{ℕ, ◌<◌}
+use Rattle.std.specs.Prelude.{ℕ}
 use Rattle.std.proofs.Math.Decide.{dec_lt}
 use Rattle.std.proofs.Common.{arith, lit<}
 use Rattle.monoid.specs.Monoid.{Model, checked}

@@ -1,7 +1,7 @@
 -- The values of Karp and Rabin's fingerprint are the rows with each number below p, and w × v equal to 1 modulo p.
 use Rattle.std.proofs.Common.{ap, ◌∙◌, mul_comm, lit<}
 use Rattle.std.proofs.Math.Logic.Dec.{and}
-use Rattle.std.specs.Prelude.{◌+◌, ◌*◌, ◌%◌, ◌<◌, refl}
+use Rattle.std.specs.Prelude.{◌+◌, ◌*◌, ◌%◌, refl}
 use Rattle.std.proofs.Math.Decide.{dec_lt, ℕ_discrete}
 use Rattle.residue.specs.Residue.{prime, minus}
 use Rattle.residue.proofs.Modulo.{inverse_times}

@@ -1,4 +1,4 @@
--- The values of line_column_model are the rows whose numbers fit 32 bits.
+-- The values of line-column are the rows whose numbers fit 32 bits.
 use Rattle.std.specs.Prelude.{ℕ, ◌^◌, ◌<◌, Bool, true, false, cond, ◌==◌, nat_lt}
 use Rattle.std.proofs.Math.Logic.Dec.{and}
 use Rattle.std.proofs.Math.Decide.{dec_lt}

@@ -1,5 +1,5 @@
 -- Rotations and joins of pure trees: which pairs are near enough for one record, and what the result is.
-use Rattle.std.proofs.Common.{◌≡◌, ℕ, ◌+◌, ◌-◌, ◌^◌, ◌<◌, ◌≤◌, max, ◌++◌, length, sym, ap, ◌∙◌, inl, inr, append_assoc, arith, length-append}
+use Rattle.std.proofs.Common.{◌≡◌, ℕ, ◌+◌, ◌^◌, ◌<◌, ◌≤◌, max, ◌++◌, length, sym, ap, ◌∙◌, inl, inr, append_assoc, arith, length-append}
 use Rattle.std.proofs.lemmas.Bool.{cases_lt}
 use Rattle.rope.specs.Tree.{Tree, node, text, size, height}
 use Rattle.rope.proofs.Knows.{Near}

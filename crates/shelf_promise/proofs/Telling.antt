@@ -20,7 +20,7 @@ use Rattle.rope.proofs.Readings.{sound_of}
 use Rattle.shelf_view.specs.Documents.{all_fine}
 use Rattle.shelf_view.specs.Marked.{marked, fingerprint}
 use Rattle.shelf_view.specs.Questions.{of_document, of_part}
-use Rattle.shelf_view.specs.Refusals.{Answers, first}
+use Rattle.shelf_view.specs.Refusals.{Answers}
 use Rattle.shelf_view.specs.State.{State, Shelved, state_of, text_at, unknown, kept_values}
 use Rattle.shelf_view.specs.declared.refusal.Refusal.{Refusal}
 use Rattle.shelf_view.specs.declared.refusal.Refusal.TheVariants.{NoDocument}

@@ -1,4 +1,4 @@
--- The questions of a marked shelf, which keeps the pair of Zémor's product and line_column_model: its fingerprints.
+-- The questions of a marked shelf, which keeps the pair of Zémor's product and line-column: its fingerprints.
 use Rattle.std.specs.Prelude.{◌≡◌, ℕ, ◌<◌, ◌≤◌, List, ◌++◌, length, take, drop, Some, None, Ok, Err, Option, Result}
 use Rattle.monoid.specs.Monoid.{Model, fold_of}
 use Rattle.monoid.specs.LineColumnValues.{line_column_model}

@@ -1,5 +1,5 @@
 -- What each question answers, and why it is refused.
-use Rattle.std.specs.Prelude.{◌≡◌, ℕ, ◌+◌, ◌-◌, ◌||◌, List, [], ◌∷◌, ◌++◌, length, drop, Some, None, Ok, Err, Option, Result, nat_le, nat_lt}
+use Rattle.std.specs.Prelude.{◌≡◌, ℕ, ◌+◌, ◌||◌, List, [], ◌∷◌, ◌++◌, length, drop, Some, None, Ok, Err, Option, Result, nat_le, nat_lt}
 use Rattle.shelf_view.specs.Refusals.{first}
 use Rattle.shelf_view.specs.State.{State, unknown, text_at, bad_part, strange}
 use Rattle.shelf_view.specs.declared.draft_id.DraftId.{DraftId}

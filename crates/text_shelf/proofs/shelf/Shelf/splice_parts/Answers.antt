@@ -1,4 +1,4 @@
-use Rattle.std.proofs.Common.{◌-◌, max, get_or, ap, ◌∙◌, subst}
+use Rattle.std.proofs.Common.{max, get_or, ap, ◌∙◌, subst}
 use Rattle.std.proofs.lemmas.Result.{err_from_is_err_and}
 use Rattle.shelf_view.specs.State.{shown, heights_of}
 use Rattle.shelf_view.specs.Places.{Span, Lies}

@@ -1,5 +1,5 @@
 use Rattle.std.proofs.Common.{◌≡◌, Some, None, Option, unwrap_or, sym, ap, ◌∙◌}
-use Rattle.zemor.specs.Values.{sl2, one, row, Checked}
+use Rattle.zemor.specs.Values.{sl2, one, Checked}
 use Rattle.zemor.specs.declared.matrix.Sl2.{Sl2}
 use Rattle.zemor.specs.declared.matrix.Entries.{Entries}
 use Rattle.zemor.specs.Laws.{told, told_none}
