@@ -11,7 +11,8 @@ import os
 import re
 import sys
 
-# Names that would fall together with a module's or a function's, or whose sign is no letter.
+# Names that would fall together with a module's or a function's, whose sign is no letter, that are a type's, or that the
+# search below does not see.
 OTHERS = {
     "line-column": "line_column_model",
     "karp-rabin": "karp_rabin_model",
@@ -19,6 +20,10 @@ OTHERS = {
     "draft-height": "height_of_draft",
     "text-need": "need_of_text",
     "allD-push": "AllD_push",
+    "Node-facts": "NodeFacts",
+    "Leaf-facts": "LeafFacts",
+    "root-fine": "root_fine",
+    "same-mark": "same_mark",
     "valid?": "valid_dec",
 }
 

@@ -14,13 +14,13 @@ use Rattle.rope.proofs.Forests.{length_grown, grown_at, all_lawful_at, map_at}
 pub size_node : (t u : Tree) → size (node t u) ≡ size t + size u
 size_node t u = length-append (text t) (text u)
 
-pub record Node-facts (l r : Tree) : Type 0 where
+pub record NodeFacts (l r : Tree) : Type 0 where
   pub left : lawful l ≡ true
   pub right : lawful r ≡ true
   pub left_near : height l ≤ height r + 1
   pub right_near : height r ≤ height l + 1
 
-pub node_facts : (l r : Tree) → lawful (node l r) ≡ true → Node-facts l r
+pub node_facts : (l r : Tree) → lawful (node l r) ≡ true → NodeFacts l r
 node_facts l r h =
     let p = and_parts (lawful l && lawful r && leb (height l) (height r + 1)) (leb (height r) (height l + 1)) h in
     let q = and_parts (lawful l && lawful r) (leb (height l) (height r + 1)) p.0 in
@@ -32,24 +32,24 @@ node_facts l r h =
       right_near = leb-true _ _ p.1;
     }
 
-pub lawful_node : (l r : Tree) → Node-facts l r → lawful (node l r) ≡ true
+pub lawful_node : (l r : Tree) → NodeFacts l r → lawful (node l r) ≡ true
 lawful_node l r f =
     and_from (lawful l && lawful r && leb (height l) (height r + 1)) (leb (height r) (height l + 1))
     (and_from (lawful l && lawful r) (leb (height l) (height r + 1)) (and_from (lawful l) (lawful r) f.left f.right) (le-leb _ _ f.left_near))
     (le-leb _ _ f.right_near)
 
-pub record Leaf-facts (bs : List ℕ) : Type 0 where
+pub record LeafFacts (bs : List ℕ) : Type 0 where
   pub some : 0 < length bs
   pub short : length bs ≤ 64
   pub bytes : all_bytes bs ≡ true
 
-pub leaf_facts : (bs : List ℕ) → lawful (leaf bs) ≡ true → Leaf-facts bs
+pub leaf_facts : (bs : List ℕ) → lawful (leaf bs) ≡ true → LeafFacts bs
 leaf_facts bs h =
     let p = and_parts (ltb 0 (length bs) && leb (length bs) 64) (all_bytes bs) h in
     let q = and_parts (ltb 0 (length bs)) (leb (length bs) 64) p.0 in
     record { some = ltb-true _ _ q.0; short = leb-true _ _ q.1; bytes = p.1 }
 
-pub lawful_leaf : (bs : List ℕ) → Leaf-facts bs → lawful (leaf bs) ≡ true
+pub lawful_leaf : (bs : List ℕ) → LeafFacts bs → lawful (leaf bs) ≡ true
 lawful_leaf bs f =
     and_from (ltb 0 (length bs) && leb (length bs) 64) (all_bytes bs)
     (and_from (ltb 0 (length bs)) (leb (length bs) 64) (lt-ltb _ _ f.some) (le-leb _ _ f.short)) f.bytes

@@ -97,9 +97,9 @@ module _ (s : Shelved (PairRow Entries LineColumnRow)) (d a e b n : ℕ) where
     pub equal : v.first ≡ w.first → n ≤ 5 → Sound s.arena → Summed marked s.arena
         → Compares n (between a (a + n) (text_at (state_of s) d)) (between b (b + n) (text_at (state_of s) e)) Equal
     unfolding one other
-    equal same-mark h sound k =
+    equal same_mark h sound k =
         let f = marks k in
-        let both = sym f.0 ∙ same-mark ∙ f.1 in
+        let both = sym f.0 ∙ same_mark ∙ f.1 in
         let bytes_of : (i x y : ℕ) (r : Part) → Span marked s i x y r → all_bytes (between x y (text_at (state_of s) i)) ≡ true =
         λ i x y r g. all_bytes_take (y - x) (drop x (text_at (state_of s) i)) (all_bytes_drop x (text_at (state_of s) i) (ap all_bytes g.lies.text_is ∙ root_bytes s.arena r.root sound g.lies.fine_root)) in (
           h,

@@ -152,12 +152,12 @@ pub append : {V R : Type 0} {kind : _} (m : Model V R) (s : Shelf V R kind) (sto
 append m s store bs n g places root text p r is fits =
     let f = firm_of s in
     let w = valid_store s in
-    let root-fine = fine_root store g.valid root r (omega (arith, ap length is, fits.short)) in
+    let root_fine = fine_root store g.valid root r (omega (arith, ap length is, fits.short)) in
     let free = unspent (parts s) f fits.free in
     record {
-      firm = firm_after (parts s) f w store bs n g places root text p root-fine is free s.draft s.drafted;
-      strings_are = strings_after (parts s) f w store bs n g places root text p root-fine is free;
-      changed = changed_after (parts s) f w store bs n g places root text p root-fine is free s.draft;
+      firm = firm_after (parts s) f w store bs n g places root text p root_fine is free s.draft s.drafted;
+      strings_are = strings_after (parts s) f w store bs n g places root text p root_fine is free;
+      changed = changed_after (parts s) f w store bs n g places root text p root_fine is free s.draft;
     }
 
 -- an accepted call that appends a document
