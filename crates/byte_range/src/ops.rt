@@ -2,11 +2,11 @@
 ghost use Rattle.byte_range.specs.ByteRangeValues.{byte_range_model};
 ghost use Rattle.byte_range.specs.ByteRangeLaws;
 
-use crate::range::{ByteRange, ByteRangeRow};
+use crate::range::ByteRange;
 use monoid::Monoid;
 
 impl Monoid for ByteRange {
-    type Row = ByteRangeRow;
+    type Row = ByteRange;
 
     ghost model = { byte_range_model };
 
@@ -33,17 +33,11 @@ impl Monoid for ByteRange {
         }
     }
 
-    fn to_row(self) -> ByteRangeRow {
-        ByteRangeRow {
-            least: self.least,
-            greatest: self.greatest,
-        }
+    fn to_row(self) -> ByteRange {
+        self
     }
 
-    fn from_row(row: ByteRangeRow) -> ByteRange {
-        ByteRange {
-            least: row.least,
-            greatest: row.greatest,
-        }
+    fn from_row(row: ByteRange) -> ByteRange {
+        row
     }
 }

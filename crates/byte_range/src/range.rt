@@ -2,15 +2,9 @@
 ghost use Rattle.std.specs.Prelude.{◌<◌};
 
 /// The least and the greatest byte of a text. The empty text has 255 and 0.
-#[derive(Clone, Copy)]
-pub struct ByteRange {
-    pub(crate) least: u8,
-    pub(crate) greatest: u8,
-    ghost fits: { (least < 256) × (greatest < 256) },
-}
-
 #[derive(Clone, Copy, PartialEq, Eq, Debug)]
-pub struct ByteRangeRow {
+pub struct ByteRange {
     pub least: u8,
     pub greatest: u8,
+    ghost fits: { (least < 256) × (greatest < 256) },
 }

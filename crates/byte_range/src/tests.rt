@@ -1,25 +1,25 @@
-use crate::range::{ByteRange, ByteRangeRow};
+use crate::range::ByteRange;
 use monoid::Monoid;
-use rope::record::{Record, Root, Shape, Source};
+use rope::record::{Record, Shape, Source};
 use shelf_view::refusal::Refusal;
 use std::test::Fail;
 use text_shelf::shelf::Shelf;
 
-const BLANK: Record<ByteRangeRow> = Record {
+const BLANK: Record<ByteRange> = Record {
     shape: Shape::Leaf {
         source: Source::Build,
         start: 0,
     },
     length: 0,
     height: 0,
-    row: ByteRangeRow {
+    row: ByteRange {
         least: 255,
         greatest: 0,
     },
 };
 
-fn row(least: u8, greatest: u8) -> ByteRangeRow {
-    ByteRangeRow { least, greatest }
+fn range(least: u8, greatest: u8) -> ByteRange {
+    ByteRange { least, greatest }
 }
 
 // Puts `text` on the shelf, and tells the summary of the new document.
@@ -35,16 +35,13 @@ fn put_and_tell<'b, 'a>(
 fn tells_least_and_greatest(rt: HostRuntime) -> Result<(), Fail> {
     let mut added = [0u8; 100];
     let mut records = [BLANK; 8];
-    let mut places = [Root::Empty; 4];
+    let mut places = [None; 4];
     let mut shelf: Shelf<ByteRange> = Shelf::new(b"", &mut added, &mut records, &mut places, 1);
-    assert_eq!(rt; put_and_tell(&mut shelf, b"")?.to_row(), row(255, 0));
-    assert_eq!(rt;
-        put_and_tell(&mut shelf, b"port")?.to_row(),
-        row(b'o', b't')
-    );
+    assert_eq!(rt; put_and_tell(&mut shelf, b"")?, range(255, 0));
+    assert_eq!(rt; put_and_tell(&mut shelf, b"port")?, range(b'o', b't'));
     let mut text = [b'm'; 90];
     text[0] = b'z';
     text[89] = b'a';
-    assert_eq!(rt; put_and_tell(&mut shelf, &text)?.to_row(), row(b'a', b'z'));
+    assert_eq!(rt; put_and_tell(&mut shelf, &text)?, range(b'a', b'z'));
     Ok(())
 }

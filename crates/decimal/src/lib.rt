@@ -2,28 +2,25 @@
 #![tactic(auto)]
 
 ghost use Rattle.std.specs.Prelude.{◌≡◌, length, decimal};
-ghost use Rattle.decimal.specs.Decimal.{Wrote};
+ghost use Rattle.decimal.specs.Decimal.{Copied, Wrote};
+
+use itoa::Buffer;
 
 /// How many digits `n` has.
 pub fn count(n: u64) -> usize
     ensures { result ≡ length (decimal n) }
 {
-    let mut k = 1;
-    let mut m = n;
-    while m >= 10000 {
-        m /= 10000;
-        k += 4;
-    }
-    if m < 10 {
-        return k;
-    }
-    if m < 100 {
-        return k + 1;
-    }
-    if m < 1000 {
-        return k + 2;
-    }
-    k + 3
+    n.checked_ilog10().map_or(1, |k| k as usize + 1)
+}
+
+/// Copies `text` to the start of `out` and tells its length; what lies behind it keeps its bytes. `None`, with `out`
+/// unchanged, exactly where `out` is too short.
+pub fn copy(text: &[u8], out: &mut [u8]) -> Option<usize>
+    ensures { Copied text.now out.old result out.new }
+{
+    let (front, _) = out.split_at_mut_checked(text.len())?;
+    front.copy_from_slice(text);
+    Some(text.len())
 }
 
 /// Writes the digits of `n` at the start of `out` and tells how many there are; what lies behind them keeps its
@@ -31,17 +28,5 @@ pub fn count(n: u64) -> usize
 pub fn write(n: u64, out: &mut [u8]) -> Option<usize>
     ensures { Wrote n out.old result out.new }
 {
-    let k = count(n);
-    if out.len() < k {
-        return None;
-    }
-    let mut i = k;
-    let mut m = n;
-    while m >= 10 {
-        i -= 1;
-        out[i] = b'0' + (m % 10) as u8;
-        m /= 10;
-    }
-    out[0] = b'0' + m as u8;
-    Some(k)
+    copy(Buffer::new().format(n).as_bytes(), out)
 }

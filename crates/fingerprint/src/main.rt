@@ -3,9 +3,9 @@
 
 mod stream;
 
-use monoid::Monoid;
+use monoid::line_column::LineColumn;
 use std::io;
-use std::io::{Read, Write};
+use std::io::Read;
 use stream::Stream;
 
 /// How many bytes are read at a time.
@@ -22,17 +22,15 @@ fn read_all(rt: &HostRuntime) -> io::Result<Stream> {
         if n == 0 {
             break;
         }
-        stream.add(&buffer[0..n]);
+        stream.add(&buffer[..n]);
     }
     Ok(stream)
 }
 
 fn main(rt: HostRuntime) -> io::Result<()> {
     let stream = read_all(&rt)?;
-    let position = stream.position().to_row();
+    let fingerprint = stream.fingerprint();
+    let LineColumn { lines, columns } = stream.position();
     let bytes = stream.bytes();
-    let lines = position.lines;
-    let columns = position.columns;
-    rt.stdout().write_all(&stream.fingerprint().to_hex())?;
-    println!(rt; "\n{bytes} bytes, {lines} lines, {columns} columns")
+    println!(rt; "{fingerprint}\n{bytes} bytes, {lines} lines, {columns} columns")
 }

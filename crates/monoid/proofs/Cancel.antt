@@ -1,4 +1,4 @@
--- Solving in a group.
+-- Cancelling in a group.
 use Rattle.std.proofs.Common.{◌≡◌, sym, refl, ap, ◌∙◌}
 use Rattle.monoid.specs.Monoid.{Model, Lawful, Inverse}
 
@@ -6,13 +6,7 @@ module _ {V R : Type 0} (m : Model V R) (inv : V → V) (l : Lawful m) (n : Inve
   op : V → V → V
   op = m.joined
 
-  pub solves : (f w b : V) → m.joined f (m.joined (m.joined (m.joined (inv f) w) (inv b)) b) ≡ w
-  unfolding op
-  solves f w b =
-      ap (op f) (l.assoc (op (inv f) w) (inv b) b ∙ ap (op (op (inv f) w)) (n.before b) ∙ l.right (op (inv f) w))
-      ∙ sym (l.assoc f (inv f) w) ∙ ap (λ t. op t w) (n.after f) ∙ l.left w
-
-  pub only : (f w b x : V) → m.joined f (m.joined x b) ≡ w → x ≡ m.joined (m.joined (inv f) w) (inv b)
+  only : (f w b x : V) → m.joined f (m.joined x b) ≡ w → x ≡ m.joined (m.joined (inv f) w) (inv b)
   unfolding op
   only f w b x e =
       sym (ap (λ t. op (op (inv f) t) (inv b)) (sym e)

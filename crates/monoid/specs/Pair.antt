@@ -1,20 +1,16 @@
 -- Two monoids side by side, joined side by side.
 use Rattle.monoid.specs.Monoid.{Model}
 use Rattle.monoid.specs.declared.pair.Pair.{Pair}
-use Rattle.monoid.specs.declared.pair.PairRow.{PairRow}
 
 abbrev pub pair_of : {A B : Type 0} → A → B → Pair A B
 pair_of x y = record { first = x; second = y }
 
-abbrev pub rows_of : {R S : Type 0} → R → S → PairRow R S
-rows_of x y = record { first = x; second = y }
-
-abbrev pub pair_model : {A B R S : Type 0} → Model A R → Model B S → Model (Pair A B) (PairRow R S)
+abbrev pub pair_model : {A B R S : Type 0} → Model A R → Model B S → Model (Pair A B) (Pair R S)
 pair_model m n = record {
   empty = pair_of m.empty n.empty;
   of_byte = λ k. pair_of (m.of_byte k) (n.of_byte k);
   joined = λ x y. pair_of (m.joined x.first y.first) (n.joined x.second y.second);
-  row = λ x. rows_of (m.row x.first) (n.row x.second);
+  row = λ x. pair_of (m.row x.first) (n.row x.second);
   value = λ r. pair_of (m.value r.first) (n.value r.second);
 }
 

@@ -1,18 +1,21 @@
 //! Karp and Rabin's rolling fingerprint.
-ghost use Rattle.std.specs.Prelude.{◌≡◌, ◌*◌, ◌%◌, ◌<◌};
+ghost use Rattle.std.specs.Prelude.{◌≡◌, ◌*◌, ◌%◌};
 ghost use Rattle.residue.specs.Residue.{prime};
+
+use residue::Residue;
 
 pub mod ops;
 
 /// A text's polynomial h, with the power w of the base that shifts by the text's length, and its inverse v.
 #[derive(Clone, Copy)]
 pub struct KarpRabin {
-    h: u32,
-    w: u32,
-    v: u32,
-    ghost valid: { ((h < prime) × (w < prime)) × ((v < prime) × ((w * v) % prime ≡ 1)) },
+    h: Residue,
+    w: Residue,
+    v: Residue,
+    ghost valid: { (w.n * v.n) % prime ≡ 1 },
 }
 
+/// Three plain numbers under no condition, as a value lies in records and tables.
 #[derive(Clone, Copy)]
 pub struct KarpRabinRow {
     pub h: u32,

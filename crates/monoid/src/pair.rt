@@ -10,14 +10,8 @@ pub struct Pair<A, B> {
     pub second: B,
 }
 
-#[derive(Clone, Copy)]
-pub struct PairRow<R, S> {
-    pub first: R,
-    pub second: S,
-}
-
 impl<A: Monoid, B: Monoid> Monoid for Pair<A, B> {
-    type Row = PairRow<A::Row, B::Row>;
+    type Row = Pair<A::Row, B::Row>;
 
     ghost model = { pair_model A.Monoid.model B.Monoid.model };
 
@@ -44,14 +38,14 @@ impl<A: Monoid, B: Monoid> Monoid for Pair<A, B> {
         }
     }
 
-    fn to_row(self) -> PairRow<A::Row, B::Row> {
-        PairRow {
+    fn to_row(self) -> Pair<A::Row, B::Row> {
+        Pair {
             first: self.first.to_row(),
             second: self.second.to_row(),
         }
     }
 
-    fn from_row(row: PairRow<A::Row, B::Row>) -> Pair<A, B> {
+    fn from_row(row: Pair<A::Row, B::Row>) -> Pair<A, B> {
         Pair {
             first: A::from_row(row.first),
             second: B::from_row(row.second),

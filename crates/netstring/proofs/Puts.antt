@@ -1,61 +1,38 @@
 -- The netstring that lies in a buffer after its digits, its colon, the lent part and its comma are written.
-use Rattle.std.proofs.Common.{◌≡◌, ℕ, ◌+◌, ◌-◌, ◌<◌, ◌≤◌, List, [], ◌∷◌, ◌++◌, length, get_or, take, drop, set, decimal, sym, ap, ◌∙◌, append_assoc, append-nil, arith, length-append}
+use Rattle.std.proofs.Common.{◌≡◌, ℕ, ◌+◌, ◌-◌, ◌<◌, ◌≤◌, List, [], ◌∷◌, ◌++◌, length, take, drop, set, decimal, sym, refl, ap, ◌∙◌, append_assoc, append-nil, arith, length-append}
 use borrow.Rule.Slice.PartMut.{put_mid}
+use Rattle.std.proofs.lemmas.List.{take_rest, drop_all, drop-drop, drop_at, take_at, set_at, length-drop}
 use Rattle.netstring.specs.Netstring.{netstring}
-use Rattle.std.proofs.lemmas.List.{take_rest, drop_all, drop-drop, drop_at, take_at, drop_more, set_at, length-drop}
 use Rattle.netstring.proofs.Fronts.{parts}
 
 pub long : (c : List ℕ) → length (netstring c) ≡ length (decimal (length c)) + length c + 2
 unfolding netstring
-long c =
-    let a = length-append (decimal (length c)) (58 ∷ (c ++ (44 ∷ []))) in
-    let b = length-append c (44 ∷ []) in
-    omega (arith, a, b)
+long c = omega (arith, length-append (decimal (length c)) (58 ∷ (c ++ (44 ∷ []))), length-append c (44 ∷ []))
 
-module _ (text buf b1 out : List ℕ) (n m : ℕ) (digits : b1 ≡ decimal (length text) ++ drop n buf) (len : n ≡ length (decimal (length text))) (mlen : m ≡ length text) (room : n + m + 2 ≤ length buf) (copied : out ≡ text ++ drop m (take (length (set b1 n 58) - (n + 1)) (drop (n + 1) (set b1 n 58)))) where
-  d : List ℕ
-  d = decimal (length text)
+-- a byte written behind p
+written : (p s : List ℕ) (i b : ℕ) → i ≡ length p → 0 < length s → set (p ++ s) i b ≡ p ++ (b ∷ drop 1 s)
+written p [] i b at some = absurd (omega arith)
+written p (x ∷ s) i b at some = set_at p x s b i (sym at)
 
-  r1 : List ℕ
-  r1 = drop (n + 1) buf
+-- a text copied to the part of a buffer behind p
+lent : (p r text b out : List ℕ) (n : ℕ) → b ≡ p ++ r → length p ≡ n → out ≡ text ++ drop (length text) (take (length b - n) (drop n b)) → put_mid n (length b - n) b out ≡ p ++ (text ++ drop (length text) r)
+lent p r text b out n e len copied =
+    let f : take n b ≡ p = ap (take n) e ∙ take_at p r n len in
+    let g : drop n b ≡ r = ap (drop n) e ∙ drop_at p r n len in
+    let o : out ≡ text ++ drop (length text) r = copied ∙ ap (λ (l : List ℕ). text ++ drop (length text) l) (take_rest b n ∙ g) in
+    let z : drop (length b - n) (drop n b) ≡ [] = drop_all (length b - n) (drop n b) (omega (arith, length-drop n b)) in
+    rw (f, z, append-nil, o) refl
 
-  colon : set b1 n 58 ≡ d ++ (58 ∷ r1)
-  unfolding d r1
-  colon = ap (λ (l : List ℕ). set l n 58) (digits ∙ ap (λ (l : List ℕ). decimal (length text) ++ l) (drop_more buf n 0 (omega arith))) ∙ set_at (decimal (length text)) (get_or buf n 0) (drop (n + 1) buf) 58 n (sym len)
-
-  colon' : set b1 n 58 ≡ (d ++ (58 ∷ [])) ++ r1
-  colon' = colon ∙ sym (append_assoc d (58 ∷ []) r1)
-
-  dlen : length (d ++ (58 ∷ [])) ≡ n + 1
-  unfolding d
-  dlen = length-append (decimal (length text)) (58 ∷ []) ∙ omega arith
-
-  front : take (n + 1) (set b1 n 58) ≡ d ++ (58 ∷ [])
-  front = ap (take (n + 1)) colon' ∙ take_at (d ++ (58 ∷ [])) r1 (n + 1) dlen
-
-  back : drop (n + 1) (set b1 n 58) ≡ r1
-  back = ap (drop (n + 1)) colon' ∙ drop_at (d ++ (58 ∷ [])) r1 (n + 1) dlen
-
-  out_is : out ≡ text ++ drop m r1
-  out_is = copied ∙ ap (λ (l : List ℕ). text ++ drop m l) (take_rest (set b1 n 58) (n + 1) ∙ back)
-
-  rest_none : drop (length (set b1 n 58) - (n + 1)) (drop (n + 1) (set b1 n 58)) ≡ []
-  rest_none = let a = length-drop (n + 1) (set b1 n 58) in drop_all (length (set b1 n 58) - (n + 1)) (drop (n + 1) (set b1 n 58)) (omega (arith, a))
-
-  lent : put_mid (n + 1) (length (set b1 n 58) - (n + 1)) (set b1 n 58) out ≡ ((d ++ (58 ∷ [])) ++ text) ++ drop m r1
-  lent = ap (λ (l : List ℕ). take (n + 1) (set b1 n 58) ++ (out ++ l)) rest_none ∙ ap (λ (l : List ℕ). take (n + 1) (set b1 n 58) ++ l) (append-nil out ∙ out_is) ∙ ap (λ (l : List ℕ). l ++ (text ++ drop m r1)) front ∙ sym (append_assoc (d ++ (58 ∷ [])) text (drop m r1))
-
-  r1_long : m < length r1
-  unfolding r1
-  r1_long = let a = length-drop (n + 1) buf in omega (arith, a)
-
-  front_long : length ((d ++ (58 ∷ [])) ++ text) ≡ n + 1 + m
-  front_long = length-append (d ++ (58 ∷ [])) text ∙ omega (arith, dlen)
-
-  pub assembled : set (put_mid (n + 1) (length (set b1 n 58) - (n + 1)) (set b1 n 58) out) (n + 1 + m) 44 ≡ netstring text ++ drop (n + 1 + m + 1) buf
-  unfolding r1 d
-  assembled =
-      let e : drop (m + 1) r1 ≡ drop (n + 1 + m + 1) buf = drop-drop (m + 1) (n + 1) buf ∙ ap (λ (x : ℕ). drop x buf) (omega arith) in
-      let s : set (put_mid (n + 1) (length (set b1 n 58) - (n + 1)) (set b1 n 58) out) (n + 1 + m) 44 ≡ ((d ++ (58 ∷ [])) ++ text) ++ (44 ∷ drop (m + 1) r1) = ap (λ (l : List ℕ). set l (n + 1 + m) 44) (lent ∙ ap (λ (l : List ℕ). ((d ++ (58 ∷ [])) ++ text) ++ l) (drop_more r1 m 0 r1_long)) ∙ set_at ((d ++ (58 ∷ [])) ++ text) (get_or r1 m 0) (drop (m + 1) r1) 44 (n + 1 + m) front_long in
-      let t : ((d ++ (58 ∷ [])) ++ text) ++ (44 ∷ drop (m + 1) r1) ≡ d ++ (58 ∷ (text ++ (44 ∷ drop (m + 1) r1))) = simp append_assoc in
-      s ∙ t ∙ sym (parts text (drop (m + 1) r1)) ∙ ap (λ (l : List ℕ). netstring text ++ l) e
+pub assembled : (text buf b out : List ℕ) (k whole : ℕ) → k ≡ length (decimal (length text)) → whole ≡ length text + (k + 2) → whole ≤ length buf → b ≡ decimal (length text) ++ drop k buf → out ≡ text ++ drop (length text) (take (length (set b k 58) - (k + 1)) (drop (k + 1) (set b k 58))) → set (put_mid (k + 1) (length (set b k 58) - (k + 1)) (set b k 58) out) (whole - 1) 44 ≡ netstring text ++ drop whole buf
+assembled text buf b out k whole len sum room digits copied =
+    let d = decimal (length text) in
+    let r = drop (k + 1) buf in
+    let p = d ++ (58 ∷ []) in
+    let plen : length p ≡ k + 1 = omega (arith, length-append d (58 ∷ [])) in
+    let colon : set b k 58 ≡ p ++ r = ap (λ (l : List ℕ). set l k 58) digits ∙ written d (drop k buf) k 58 len (omega (arith, length-drop k buf)) ∙ ap (λ (l : List ℕ). d ++ (58 ∷ l)) (drop-drop 1 k buf) ∙ sym (append_assoc d (58 ∷ []) r) in
+    let l = lent p r text (set b k 58) out (k + 1) colon plen copied in
+    let at : whole - 1 ≡ length (p ++ text) = omega (arith, length-append p text) in
+    let w = written (p ++ text) (drop (length text) r) (whole - 1) 44 at (omega (arith, length-drop (length text) r, length-drop (k + 1) buf)) in
+    let j : k + 1 + (length text + 1) ≡ whole = omega arith in
+    let t : drop 1 (drop (length text) r) ≡ drop whole buf = drop-drop 1 (length text) r ∙ drop-drop (length text + 1) (k + 1) buf ∙ ap (λ (n : ℕ). drop n buf) j in
+    ap (λ (s : List ℕ). set s (whole - 1) 44) (l ∙ sym (append_assoc p text (drop (length text) r))) ∙ w ∙ ap (λ (s : List ℕ). (p ++ text) ++ (44 ∷ s)) t ∙ rw parts (simp append_assoc)

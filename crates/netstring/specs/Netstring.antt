@@ -1,5 +1,5 @@
 -- Netstrings: a length in decimal, a colon, that many bytes, a comma.
-use Rattle.std.specs.Prelude.{◌≡◌, ℕ, ◌<◌, ◌≤◌, List, [], ◌∷◌, ◌++◌, length, drop, Some, None, decimal, Option, ◌≢◌, slice_index}
+use Rattle.std.specs.Prelude.{◌≡◌, ℕ, ◌≤◌, List, [], ◌∷◌, ◌++◌, length, drop, Some, None, decimal, Option, ◌≢◌, slice_index}
 use Rattle.std.specs.Int.{IsInRange}
 
 -- the netstring of a content
@@ -37,11 +37,6 @@ Number s n = (n ≤ 9999999) × (s ≡ decimal n)
 -- s is no such number
 abbrev pub NoNumber : List ℕ → Type 0
 NoNumber s = (n : ℕ) → Number s n → ⊥
-
--- text stands at the front of what the buffer was, or nothing where it is too short
-abbrev pub Copied : List ℕ → List ℕ → Option ℕ → List ℕ → Type 0
-Copied text was None is = (length was < length text) × (is ≡ was)
-Copied text was (Some k) is = (k ≡ length text) × (k ≤ length was) × (is ≡ text ++ drop k was)
 
 -- where a netstring was written, the one netstring at the front of the buffer has the content c
 abbrev pub ReadsBack : List ℕ → Option ℕ → List ℕ → Type 0

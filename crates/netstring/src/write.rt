@@ -1,17 +1,6 @@
 //! Writing netstrings.
-ghost use Rattle.netstring.specs.Netstring.{netstring, Copied, ReadsBack};
-
-// Copies `text` to the start of `out` and tells its length.
-fn copy(text: &[u8], out: &mut [u8]) -> Option<usize>
-    ensures { Copied text.now out.old result out.new }
-{
-    let n = text.len();
-    if out.len() < n {
-        return None;
-    }
-    out[0..n].copy_from_slice(text);
-    Some(n)
-}
+ghost use Rattle.decimal.specs.Decimal.{Copied};
+ghost use Rattle.netstring.specs.Netstring.{netstring, ReadsBack};
 
 /// Writes the netstring of `content` at the start of `out` and tells its length; what lies behind it keeps its bytes.
 /// `None`, with `out` unchanged, exactly where `out` is too short.
@@ -21,17 +10,13 @@ pub fn write(content: &[u8], out: &mut [u8]) -> Option<usize>
 {
     let len = content.len();
     let k = decimal::count(len as u64);
-    if out.len() < k + 2 || out.len() - k - 2 < len {
+    let whole = len.checked_add(k + 2)?;
+    if out.len() < whole {
         return None;
     }
-    let Some(n) = decimal::write(len as u64, out) else {
-        return None;
-    };
-    out[n] = b':';
-    let start = n + 1;
-    let Some(m) = copy(content, &mut out[start..]) else {
-        return None;
-    };
-    out[start + m] = b',';
-    Some(start + m + 1)
+    decimal::write(len as u64, out)?;
+    out[k] = b':';
+    decimal::copy(content, &mut out[k + 1..])?;
+    out[whole - 1] = b',';
+    Some(whole)
 }

@@ -1,2 +1,3 @@
 pub mod Residue
+pub mod Values
 pub mod Fibonacci

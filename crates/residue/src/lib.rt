@@ -1,44 +1,124 @@
-//! Numbers modulo the prime p = 2^31 - 1. An inner crate: its callers keep their numbers below p.
+//! Numbers modulo the prime p = 2^31 - 1.
 #![tactic(auto)]
 
-ghost use Rattle.std.specs.Prelude.{◌≡◌, ◌+◌, ◌*◌, ◌%◌, ◌<◌};
+ghost use Rattle.std.specs.Prelude.{◌≡◌, ◌+◌, ◌*◌, ◌%◌, ◌<◌, ◌≤◌, MatchResult};
 ghost use Rattle.residue.specs.Residue.{prime, dot as row_by_column, minus};
 
-const P: u64 = 2147483647;
+use std::ops::{Mul, Neg};
 
-/// a * b + c modulo p.
-pub fn multiply_add(a: u32, b: u32, c: u32) -> u32
-    ensures value { result ≡ (a * b + c) % prime }
-    ensures low { result < prime }
-{
-    ((a as u64 * b as u64 + c as u64) % P) as u32
+const P: u32 = 2147483647;
+
+/// A number modulo p, below p.
+#[derive(Clone, Copy, PartialEq, Eq, Debug)]
+pub struct Residue {
+    n: u32,
+    ghost low: { n < prime },
 }
 
-/// a * b modulo p.
-pub fn multiply(a: u32, b: u32) -> u32
-    ensures value { result ≡ a * b % prime }
-    ensures low { result < prime }
-{
-    (a as u64 * b as u64 % P) as u32
+/// A number that is not below p.
+#[derive(Clone, Copy, PartialEq, Eq, Debug)]
+pub struct TooLarge(pub u32);
+
+impl Residue {
+    pub const ZERO: Residue = Residue { n: 0 };
+
+    pub const ONE: Residue = Residue { n: 1 };
+
+    /// n modulo p.
+    pub fn new(n: u32) -> Residue
+        ensures { result.n ≡ n % prime }
+    {
+        Residue { n: n % P }
+    }
+
+    /// The number below p, as `NonZero::get` gives its number.
+    pub fn get(self) -> u32
+        ensures { result ≡ self.n }
+    {
+        self.n
+    }
+
+    /// self * b + c.
+    pub fn multiply_add(self, b: Residue, c: Residue) -> Residue
+        ensures { result.n ≡ (self.n * b.n + c.n) % prime }
+    {
+        multiply_add(self.n, b.n, c.n)
+    }
 }
 
-/// The row (a, b) times the column (e, g), a * e + b * g, modulo p.
-pub fn dot(a: u32, b: u32, e: u32, g: u32) -> u32
-    requires a_low { a < prime }
-    requires b_low { b < prime }
-    requires e_low { e < prime }
-    requires g_low { g < prime }
-    ensures value { result ≡ row_by_column a b e g }
-    ensures low { result < prime }
+/// a * b + c modulo p, of any numbers, reduced once.
+pub fn multiply_add(a: u32, b: u32, c: u32) -> Residue
+    ensures { result.n ≡ (a * b + c) % prime }
 {
-    ((a as u64 * e as u64 + b as u64 * g as u64) % P) as u32
+    reduced(a as u64 * b as u64 + c as u64)
 }
 
-/// What is added to x to come to 0 modulo p; 0 for 0.
-pub fn negate(x: u32) -> u32
-    requires { x < prime }
-    ensures value { result ≡ minus x }
-    ensures low { result < prime }
+/// a * b modulo p, of any numbers.
+pub fn multiply(a: u32, b: u32) -> Residue
+    ensures { result.n ≡ a * b % prime }
 {
-    if x == 0 { 0 } else { 2147483647 - x }
+    reduced(a as u64 * b as u64)
+}
+
+/// The row (a, b) times the column (e, g), a * e + b * g, reduced once.
+pub fn dot(a: Residue, b: Residue, e: Residue, g: Residue) -> Residue
+    ensures { result.n ≡ row_by_column a.n b.n e.n g.n }
+{
+    reduced(a.n as u64 * e.n as u64 + b.n as u64 * g.n as u64)
+}
+
+/// n modulo p.
+fn reduced(n: u64) -> Residue
+    ensures { result.n ≡ n % prime }
+{
+    Residue {
+        n: (n % P as u64) as u32,
+    }
+}
+
+/// The same number, which is below p.
+impl From<u8> for Residue {
+    ghost from_gives = { λ n r. r.n ≡ n };
+
+    fn from(n: u8) -> Residue {
+        Residue { n: n as u32 }
+    }
+}
+
+/// The same number, where it is below p.
+impl TryFrom<u32> for Residue {
+    type Error = TooLarge;
+
+    ghost try_from_gives = { λ n r. MatchResult r (λ x. x.n ≡ n) (λ e. (e.0 ≡ n) × (prime ≤ n)) };
+
+    fn try_from(n: u32) -> Result<Residue, TooLarge> {
+        if n < P {
+            Ok(Residue { n })
+        } else {
+            Err(TooLarge(n))
+        }
+    }
+}
+
+impl Mul for Residue {
+    type Output = Residue;
+
+    ghost mul_gives = { λ a b r. r.n ≡ a.n * b.n % prime };
+
+    fn mul(self, b: Residue) -> Residue {
+        multiply(self.n, b.n)
+    }
+}
+
+/// What is added to self to come to 0; 0 for 0.
+impl Neg for Residue {
+    type Output = Residue;
+
+    ghost neg_gives = { λ a r. r.n ≡ minus a.n };
+
+    fn neg(self) -> Residue {
+        Residue {
+            n: if self.n == 0 { 0 } else { P - self.n },
+        }
+    }
 }

@@ -1,9 +1,8 @@
 -- A tree that is built of two halves.
 use Rattle.std.proofs.Common.{◌≡◌, ℕ, ◌+◌, ◌-◌, ◌*◌, ◌/◌, ◌^◌, ◌<◌, ◌≤◌, max, ◌++◌, length, take, drop, sym, ap, ◌∙◌, subst, arith}
-use Rattle.monoid.specs.Monoid.{Model}
 use Rattle.rope.specs.Tree.{Tree, leaf, node, text, size, height}
 use Rattle.rope.specs.Arena.{part, source_text}
-use Rattle.rope.specs.Memory.{arena_of, tree_of, Valid, Takes}
+use Rattle.rope.specs.Memory.{arena_of, tree_of, Takes}
 use Rattle.rope.specs.Steps.{leaves, Leafs, Pushed, Pairs, Buildable, Built}
 use Rattle.rope.specs.declared.record.Source.{Source}
 use Rattle.rope.specs.declared.record.Source.TheVariants.{Build, Added}
@@ -14,18 +13,18 @@ use Rattle.rope.proofs.Knows.{Knows, Near, known, knows_after, pairs_of, knows_p
 use Rattle.rope.proofs.Levels.{Level, level_left, level_right, level_next, half_leaves, part_split}
 
 -- both texts are short
-pub source_short : {V R : Type 0} (s : Store V R) → Valid s → (source : Source) → length (source_text (arena_of s) source) ≤ 2 ^ 24
-source_short s w Build = w.sound.build_short
-source_short s w Added = w.sound.added_short
+pub source_short : {V R : Type 0} {kind : _} (s : Store V R kind) (source : Source) → length (source_text (arena_of s) source) ≤ 2 ^ 24
+source_short s Build = s.sound.build_short
+source_short s Added = s.sound.added_short
 
 abbrev half : ℕ → ℕ
 half n = leaves n / 2 * 64
 
-module _ {V R : Type 0} (m : Model V R) (s : Store V R) (source : Source) (start n : ℕ) (w : Valid s) (b : Buildable s source start n) where
+module _ {V R : Type 0} {kind : _} (s : Store V R kind) (source : Source) (start n : ℕ) (b : Buildable s source start n) where
   pub build_leafs : n ≤ 64 → Leafs s source start n
   build_leafs h = record { free = record { room = omega (arith, b.free.room, b.some); few = omega (arith, b.free.few, b.some) }; some = b.some; short = h; within = b.within }
 
-  pub built_leaf : {t : Store V R} {x : ℕ} → n ≤ 64 → Pushed m s t x (leaf (part (arena_of s) source start n)) → Built m s t x source start n
+  pub built_leaf : {t : Store V R kind} {x : ℕ} → n ≤ 64 → Pushed s t x (leaf (part (arena_of s) source start n)) → Built s t x source start n
   built_leaf {t} {x} h p =
       let one : leaves n ≡ 1 = omega (arith, b.some) in
       let flat : height (tree_of t x) ≡ 0 = ap height p.tree in
@@ -47,7 +46,7 @@ module _ {V R : Type 0} (m : Model V R) (s : Store V R) (source : Source) (start
           within = omega (arith, b.within, (half_leaves n big).2);
         }
 
-    module _ {s1 : Store V R} {l : ℕ} (p : Built m s s1 l source start (half n)) where
+    module _ {s1 : Store V R kind} {l : ℕ} (p : Built s s1 l source start (half n)) where
       same_source : source_text (arena_of s1) source ≡ source_text (arena_of s) source
       same_source = source_keeps p.takes source
 
@@ -59,7 +58,7 @@ module _ {V R : Type 0} (m : Model V R) (s : Store V R) (source : Source) (start
             within = omega (arith, ap length same_source, b.within, (half_leaves n big).2);
           }
 
-      module _ {s2 : Store V R} {r : ℕ} (q : Built m s1 s2 r source (start + half n) (n - half n)) where
+      module _ {s2 : Store V R kind} {r : ℕ} (q : Built s1 s2 r source (start + half n) (n - half n)) where
         left_level : Level (height (tree_of s1 l)) (leaves n / 2)
         left_level = subst (Level (height (tree_of s1 l))) (half_leaves n big).0 (record { high = p.high; low = p.low })
 
@@ -76,10 +75,10 @@ module _ {V R : Type 0} (m : Model V R) (s : Store V R) (source : Source) (start
         right_size = ap length right_text ∙ length_part (source_text (arena_of s) source) (start + half n) (n - half n) (omega (arith, b.within, (half_leaves n big).2))
 
         known_left : Knows s2 l (tree_of s1 l)
-        known_left = knows_after q.takes (known p.takes.valid p.below)
+        known_left = knows_after q.takes (known p.below)
 
         known_right : Knows s2 r (tree_of s2 r)
-        known_right = known q.takes.valid q.below
+        known_right = known q.below
 
         count : (0 < leaves n / 2) × (leaves n / 2 ≤ leaves n - leaves n / 2) × (leaves n - leaves n / 2 ≤ leaves n / 2 + 1)
         count = (omega arith, omega arith, omega arith)
@@ -92,19 +91,19 @@ module _ {V R : Type 0} (m : Model V R) (s : Store V R) (source : Source) (start
             record {
               left = omega arith;
               right = level_right h₁ h₂ (leaves n / 2) (leaves n - leaves n / 2) left_level right_level count.0 count.1 count.2;
-              short = omega (arith, left_size, right_size, b.within, source_short s w source, (half_leaves n big).2);
+              short = omega (arith, left_size, right_size, b.within, source_short s source, (half_leaves n big).2);
             }
 
-        used_two : s2.used + 2 ≡ s.used + 2 * leaves n
+        used_two : s2.records.used + 2 ≡ s.records.used + 2 * leaves n
         used_two = omega (arith, p.exactly, q.exactly, (half_leaves n big).0, (half_leaves n big).1)
 
-        both : Takes m s s2 (2 * leaves n - 2)
+        both : Takes s s2 (2 * leaves n - 2)
         both = takes_within (2 * leaves n - 2) (omega (arith, (half_leaves n big).0, (half_leaves n big).1)) (takes_trans p.takes q.takes)
 
         pub built_pairs : Pairs s2 l r
         built_pairs = pairs_of known_left known_right (free_after 1 (2 * leaves n) (omega arith) b.free both) both_near
 
-        pub built_whole : {s3 : Store V R} {x : ℕ} → Pushed m s2 s3 x (node (tree_of s2 l) (tree_of s2 r)) → Built m s s3 x source start n
+        pub built_whole : {s3 : Store V R kind} {x : ℕ} → Pushed s2 s3 x (node (tree_of s2 l) (tree_of s2 r)) → Built s s3 x source start n
         built_whole {s3} {x} o =
             let k = knows_pushed known_left known_right o in
             let h₁ = height (tree_of s1 l) in

@@ -1,23 +1,21 @@
 -- Which tree a record stands for, from one state of the store to the next.
 use Rattle.std.proofs.Common.{◌≡◌, ℕ, ◌+◌, ◌^◌, ◌<◌, ◌≤◌, refl, ap, ◌∙◌, arith}
-use Rattle.monoid.specs.Monoid.{Model}
 use Rattle.rope.specs.Tree.{Tree, node, size, height}
-use Rattle.rope.specs.Memory.{tree_of, Valid, Free, Takes}
+use Rattle.rope.specs.Memory.{tree_of, Free, Takes}
 use Rattle.rope.specs.Steps.{Pushed, Pairs}
 use Rattle.rope.specs.declared.store.Store.{Store}
 use Rattle.rope.proofs.Keeping.{keeps_tree}
 
 -- record i stands for the tree t
-pub record Knows {V R : Type 0} (s : Store V R) (i : ℕ) (t : Tree) : Type 0 where
-  pub valid : Valid s
-  pub below : i < s.used
+pub record Knows {V R : Type 0} {kind : _} (s : Store V R kind) (i : ℕ) (t : Tree) : Type 0 where
+  pub below : i < s.records.used
   pub is : tree_of s i ≡ t
 
-pub known : {V R : Type 0} {s : Store V R} {i : ℕ} → Valid s → i < s.used → Knows s i (tree_of s i)
-known w h = record { valid = w; below = h; is = refl }
+pub known : {V R : Type 0} {kind : _} {s : Store V R kind} {i : ℕ} → i < s.records.used → Knows s i (tree_of s i)
+known h = record { below = h; is = refl }
 
-pub knows_after : {V R : Type 0} {m : Model V R} {s t : Store V R} {i n : ℕ} {u : Tree} → Takes m s t n → Knows s i u → Knows t i u
-knows_after {i} p k = record { valid = p.valid; below = omega (arith, p.keeps.records.more, k.below); is = keeps_tree k.valid p.keeps i k.below ∙ k.is }
+pub knows_after : {V R : Type 0} {kind : _} {s t : Store V R kind} {i n : ℕ} {u : Tree} → Takes s t n → Knows s i u → Knows t i u
+knows_after {i} p k = record { below = omega (arith, p.keeps.records.more, k.below); is = keeps_tree p.keeps i k.below ∙ k.is }
 
 -- what lets t and u be children of one record
 pub record Near (t u : Tree) : Type 0 where
@@ -25,7 +23,7 @@ pub record Near (t u : Tree) : Type 0 where
   pub right : height u ≤ height t + 1
   pub short : size t + size u < 2 ^ 32
 
-pub pairs_of : {V R : Type 0} {s : Store V R} {l r : ℕ} {t u : Tree} → Knows s l t → Knows s r u → Free s 1 → Near t u → Pairs s l r
+pub pairs_of : {V R : Type 0} {kind : _} {s : Store V R kind} {l r : ℕ} {t u : Tree} → Knows s l t → Knows s r u → Free s 1 → Near t u → Pairs s l r
 pairs_of kl kr free near =
     let hl = ap height kl.is in
     let hr = ap height kr.is in
@@ -38,10 +36,9 @@ pairs_of kl kr free near =
       short = omega (arith, ap size kl.is, ap size kr.is, near.short);
     }
 
-pub knows_pushed : {V R : Type 0} {m : Model V R} {s t : Store V R} {l r i : ℕ} {u v : Tree} → Knows s l u → Knows s r v → Pushed m s t i (node (tree_of s l) (tree_of s r)) → Knows t i (node u v)
+pub knows_pushed : {V R : Type 0} {kind : _} {s t : Store V R kind} {l r i : ℕ} {u v : Tree} → Knows s l u → Knows s r v → Pushed s t i (node (tree_of s l) (tree_of s r)) → Knows t i (node u v)
 knows_pushed {s} {r} {u} kl kr p =
     record {
-      valid = p.takes.valid;
       below = omega (arith, p.at, p.one);
       is = p.tree ∙ ap (λ (a : Tree). node a (tree_of s r)) kl.is ∙ ap (node u) kr.is;
     }

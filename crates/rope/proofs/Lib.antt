@@ -7,3 +7,4 @@ pub mod Knows
 pub mod Appends
 pub mod Levels
 pub mod Builds
+pub mod Fresh

@@ -4,7 +4,7 @@ use Rattle.std.proofs.lemmas.Bool.{and_parts, and_from, cases_lt, leb-true, ltb-
 use Rattle.std.proofs.lemmas.List.{get_or-take, get_or_past}
 use Rattle.monoid.specs.Monoid.{Model, all_bytes}
 use Rattle.rope.specs.Tree.{Tree, leaf, node, text, size, height, lawful}
-use Rattle.rope.specs.Arena.{Arena, shaped, forest, tree_at, source_text, part, row_in, Sound, Bounded, Shaped, Shows, Reads, Splits}
+use Rattle.rope.specs.Arena.{Arena, shaped, forest, tree_at, source_text, part, row_in, Sound, Summed, Shows, Reads, Splits}
 use Rattle.rope.specs.declared.record.Record.{Record}
 use Rattle.rope.specs.declared.record.Source.{Source}
 use Rattle.rope.specs.declared.record.Shape.{Shape}
@@ -79,8 +79,8 @@ module _ {R : Type 0} (a : Arena R) (i : ℕ) where
   pub lawful_at : Sound a → i < length a.records → lawful (tree_at a i) ≡ true
   lawful_at w below = all_lawful_at (forest a) i (leaf []) w.lawful_trees (omega (arith, length_grown a.build a.added [] a.records))
 
-  pub reads : {V : Type 0} (m : Model V R) (w : Sound a) (r : Record R) → i < length a.records → r ≡ get_or a.records i r → Reads m a i r
-  reads m w r below here =
+  pub reads : {V : Type 0} (m : Model V R) (w : Sound a) (k : Summed m a) (r : Record R) → i < length a.records → r ≡ get_or a.records i r → Reads m a i r
+  reads m w k r below here =
       let rs = a.records in
       let many : i < length (forest a) = omega (arith, length_grown a.build a.added [] rs) in
       let fair = lawful_at w below in
@@ -92,7 +92,7 @@ module _ {R : Type 0} (a : Arena R) (i : ℕ) where
         lawful_tree = fair;
         long = long;
         high = ap (λ (y : Record R). y.height) here ∙ map_at (λ (y : Record R). y.height) height rs (forest a) i r (leaf []) w.heights many;
-        row = λ k. ap (λ (y : Record R). y.row) here ∙ map_at (λ (y : Record R). y.row) (row_in m) rs (forest a) i r (leaf []) k many;
+        row = ap (λ (y : Record R). y.row) here ∙ map_at (λ (y : Record R). y.row) (row_in m) rs (forest a) i r (leaf []) k many;
         shows = shows_from r.length r.shape fair long shape;
       }
 
@@ -112,20 +112,3 @@ splits_size {a} {l} {r} e = ap size e.tree ∙ size_node (tree_at a l) (tree_at 
 
 pub splits_high : {R : Type 0} {a : Arena R} {i l r : ℕ} → Splits a i l r → height (tree_at a i) ≡ max (height (tree_at a l)) (height (tree_at a r)) + 1
 splits_high e = ap height e.tree
-
-pub sound_of : {R : Type 0} {a : Arena R} → Bounded a → Shaped a → Sound a
-sound_of b s =
-    record {
-      build_short = b.0;
-      added_short = b.1.0;
-      few = b.1.1;
-      lawful_trees = s.0;
-      lengths = s.1.0;
-      heights = s.1.1;
-    }
-
-pub bounded_of : {R : Type 0} {a : Arena R} → Sound a → Bounded a
-bounded_of w = (w.build_short, (w.added_short, w.few))
-
-pub shaped_of : {R : Type 0} {a : Arena R} → Sound a → Shaped a
-shaped_of w = (w.lawful_trees, (w.lengths, w.heights))

@@ -1,10 +1,8 @@
 -- What the used memory means: each record's tree, and what holds of all of them.
-use Rattle.std.specs.Prelude.{◌≡◌, ℕ, ◌+◌, ◌^◌, ◌<◌, ◌≤◌, Bool, true, List, [], ◌∷◌, ◌++◌, map, length, take, drop, nat_lt, slice_index_or}
+use Rattle.std.specs.Prelude.{◌≡◌, ℕ, ◌+◌, ◌^◌, ◌<◌, ◌≤◌, Bool, true, List, [], ◌∷◌, ◌++◌, map, length, take, drop, Some, None, Option, nat_lt, slice_index_or}
 use Rattle.monoid.specs.Monoid.{Model, fold_of}
 use Rattle.rope.specs.Tree.{Tree, leaf, node, text, size, height, lawful, all_lawful}
 use Rattle.rope.specs.declared.record.Record.{Record}
-use Rattle.rope.specs.declared.record.Root.{Root}
-use Rattle.rope.specs.declared.record.Root.TheVariants.{Empty, At}
 use Rattle.rope.specs.declared.record.Shape.{Shape}
 use Rattle.rope.specs.declared.record.Shape.TheVariants.{Leaf, Inner}
 use Rattle.rope.specs.declared.record.Source.{Source}
@@ -15,6 +13,9 @@ pub record Arena (R : Type 0) : Type 0 where
   pub build : List ℕ
   pub added : List ℕ
   pub records : List (Record R)
+
+abbrev pub arena : {R : Type 0} → List ℕ → List ℕ → List (Record R) → Arena R
+arena build added records = record { build = build; added = added; records = records }
 
 -- the text that a source names
 abbrev pub source_of : List ℕ → List ℕ → Source → List ℕ
@@ -57,15 +58,6 @@ pub record Sound {R : Type 0} (a : Arena R) : Type 0 where
   pub lengths : map (λ r. r.length) a.records ≡ map size (forest a)
   pub heights : map (λ r. r.height) a.records ≡ map height (forest a)
 
--- the same in two facts of three parts each, as the invariant of a struct takes them
-abbrev pub Bounded : {R : Type 0} → Arena R → Type 0
-Bounded a = (length a.build ≤ 2 ^ 24) × ((length a.added ≤ 2 ^ 24) × (length a.records ≤ 65536))
-
-abbrev pub Shaped : {R : Type 0} → Arena R → Type 0
-Shaped a =
-    (all_lawful (forest a) ≡ true)
-    × ((map (λ r. r.length) a.records ≡ map size (forest a)) × (map (λ r. r.height) a.records ≡ map height (forest a)))
-
 -- the row of the fold of a tree's text
 abbrev pub row_in : {V R : Type 0} → Model V R → Tree → R
 row_in m t = m.row (fold_of m (text t))
@@ -85,7 +77,7 @@ pub record Reads {V R : Type 0} (m : Model V R) (a : Arena R) (i : ℕ) (r : Rec
   pub lawful_tree : lawful (tree_at a i) ≡ true
   pub long : r.length ≡ size (tree_at a i)
   pub high : r.height ≡ height (tree_at a i)
-  pub row : Summed m a → r.row ≡ row_in m (tree_at a i)
+  pub row : r.row ≡ row_in m (tree_at a i)
   pub shows : Shows a i r.length r.shape
 
 -- record i is an inner one over l and r
@@ -96,20 +88,24 @@ pub record Splits {R : Type 0} (a : Arena R) (i l r : ℕ) : Type 0 where
   pub left_near : height (tree_at a l) ≤ height (tree_at a r) + 1
   pub right_near : height (tree_at a r) ≤ height (tree_at a l) + 1
 
+-- a root is nowhere for the empty text, or at a record
+abbrev pub Root : Type 0
+Root = Option ℕ
+
 -- the text, the height and the summary that are kept at a root; an empty text has no record and height 0
 abbrev pub text_of : {R : Type 0} → Arena R → Root → List ℕ
-text_of a Empty = []
-text_of a (At i) = text (tree_at a i)
+text_of a None = []
+text_of a (Some i) = text (tree_at a i)
 
 abbrev pub height_of : {R : Type 0} → Arena R → Root → ℕ
-height_of a Empty = 0
-height_of a (At i) = height (tree_at a i)
+height_of a None = 0
+height_of a (Some i) = height (tree_at a i)
 
 abbrev pub kept_of : {V R : Type 0} → Model V R → Arena R → Root → V
-kept_of m a Empty = m.empty
-kept_of m a (At i) = m.value (slice_index_or (map (λ r. r.row) a.records) i (m.row m.empty))
+kept_of m a None = m.empty
+kept_of m a (Some i) = m.value (slice_index_or (map (λ r. r.row) a.records) i (m.row m.empty))
 
 -- a root is empty, or one of the first n records
 abbrev pub rooted : ℕ → Root → Bool
-rooted n Empty = true
-rooted n (At i) = nat_lt i n
+rooted n None = true
+rooted n (Some i) = nat_lt i n

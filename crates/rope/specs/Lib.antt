@@ -1,4 +1,6 @@
+pub mod Lents
 pub mod Tree
 pub mod Arena
+pub mod Held
 pub mod Memory
 pub mod Steps

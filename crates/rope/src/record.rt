@@ -7,11 +7,19 @@ pub enum Source {
     Added,
 }
 
+/// The `len` bytes from `start` on of the text that `source` names.
+#[derive(Clone, Copy)]
+pub struct Piece {
+    pub source: Source,
+    pub start: u32,
+    pub len: u32,
+}
+
 #[derive(Clone, Copy)]
 pub enum Shape {
     /// The bytes of `source` from `start` on.
     Leaf { source: Source, start: u32 },
-    /// Two earlier records, by their places.
+    /// Two earlier records, by their places: records lie in memory that the caller lends, so there is no `Box`.
     Inner { left: u32, right: u32 },
 }
 
@@ -25,8 +33,4 @@ pub struct Record<R> {
 }
 
 /// Where a text's tree is: nowhere for the empty text, or at a record.
-#[derive(Clone, Copy)]
-pub enum Root {
-    Empty,
-    At(u32),
-}
+pub type Root = Option<u32>;

@@ -1,4 +1,8 @@
 //! Trees over lent memory, which grow at their end.
+ghost use Rattle.rope.specs.Arena.{Sound, Summed};
+ghost use Rattle.rope.specs.Held.{arena_in};
+
+use crate::lent::Lent;
 use crate::record::Record;
 use monoid::Monoid;
 
@@ -7,12 +11,18 @@ mod base;
 mod build;
 mod push;
 
-/// The lent memory, and how much of it is used. The contracts say by `Valid` what always holds of it.
+/// At most so many records are used, however many are lent.
+const MOST_RECORDS: usize = 65536;
+
+/// At most so many bytes of either text are used.
+const MOST_BYTES: usize = 16777216;
+
+/// The lent memory: its trees are lawful, and each record keeps the summary of its text.
 #[derive(Drop)]
 pub struct Store<'b, 'a, M: Monoid> {
     build: &'b [u8],
-    added: &'a mut [u8],
-    added_used: usize,
-    records: &'a mut [Record<M::Row>],
-    used: usize,
+    added: Lent<'a, u8, MOST_BYTES>,
+    records: Lent<'a, Record<M::Row>, MOST_RECORDS>,
+    ghost sound: { Sound (arena_in build.now added records) },
+    ghost summed: { Summed M.Monoid.model (arena_in build.now added records) },
 }

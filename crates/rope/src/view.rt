@@ -1,31 +1,43 @@
 //! The used memory, for reading.
-ghost use Rattle.std.specs.Prelude.{◌≡◌, ◌+◌, ◌<◌, ◌≤◌, length, slice_index_or};
-ghost use Rattle.rope.specs.Arena.{Sound, Reads, part, source_text};
-ghost use Rattle.rope.specs.Memory.{seen};
+ghost use Rattle.std.specs.Prelude.{◌≡◌, ⊤};
+ghost use Rattle.rope.specs.Arena.{Sound, Summed, arena};
 
-use crate::record::{Record, Source};
+use crate::record::{Piece, Record, Source};
 use monoid::Monoid;
+use std::alloc::AllocError;
 
 /// What is used of both texts and of the records. All that only reads goes by a view.
-#[derive(Clone, Copy)]
 pub struct View<'v, M: Monoid> {
     build: &'v [u8],
     added: &'v [u8],
     records: &'v [Record<M::Row>],
+    ghost sound: { Sound (arena build.now added.now records.now) },
+    ghost summed: { Summed M.Monoid.model (arena build.now added.now records.now) },
 }
 
-/// A record of any row, read from its slice alone.
-fn get<R: Copy>(records: &[Record<R>], i: usize) -> Record<R>
-    requires { i < length records.now }
-    ensures { result ≡ slice_index_or records.now i result }
-{
-    records[i]
+// by hand: `derive(Clone, Copy)` was tried and is refused over the ghost fields of a generic struct
+impl<'v, M: Monoid> Clone for View<'v, M> {
+    ghost is_clone = { λ x y. y ≡ x };
+
+    ghost is_infallible = { λ _. ⊤ };
+
+    fn clone(&self) -> Result<View<'v, M>, AllocError> {
+        Ok(*self)
+    }
 }
+
+impl<'v, M: Monoid> Copy for View<'v, M> {}
 
 impl<'v, M: Monoid> View<'v, M> {
+    ghost use Rattle.std.specs.Prelude.{◌+◌, ◌<◌, ◌≤◌, length};
+    ghost use Rattle.rope.specs.Arena.{Reads, part, source_text};
+    ghost use Rattle.rope.specs.Memory.{seen};
+
     /// A view of used texts and records, whoever lends them.
     pub fn new(build: &'v [u8], added: &'v [u8], records: &'v [Record<M::Row>]) -> View<'v, M>
-        ensures { (result.build.now ≡ build.now) × (result.added.now ≡ added.now) × (result.records.now ≡ records.now) }
+        requires sound { Sound (arena build.now added.now records.now) }
+        requires summed { Summed M.Monoid.model (arena build.now added.now records.now) }
+        ensures { seen result ≡ arena build.now added.now records.now }
     {
         View {
             build,
@@ -43,21 +55,20 @@ impl<'v, M: Monoid> View<'v, M> {
 
     /// Record `i`, which tells the length, the height and the summary of its tree.
     pub fn record(self, i: u32) -> Record<M::Row>
-        requires sound { Sound (seen self) }
-        requires below { i < length self.records.now }
+        requires { i < length self.records.now }
         ensures { Reads M.Monoid.model (seen self.entry) i result }
     {
-        get(self.records, i as usize)
+        self.records[i as usize]
     }
 
-    /// The `count` bytes from `start` on of the text that `source` names.
-    pub fn bytes(self, source: Source, start: u32, count: u32) -> &'v [u8]
-        requires { start + count ≤ length (source_text (seen self) source) }
-        ensures { result.now ≡ part (seen self.entry) source start count }
+    /// The bytes of a piece.
+    pub fn bytes(self, piece: Piece) -> &'v [u8]
+        requires { piece.start + piece.len ≤ length (source_text (seen self) piece.source) }
+        ensures { result.now ≡ part (seen self.entry) piece.source piece.start piece.len }
     {
-        let from = start as usize;
-        let to = from + count as usize;
-        match source {
+        let from = piece.start as usize;
+        let to = from + piece.len as usize;
+        match piece.source {
             Source::Build => &self.build[from..to],
             Source::Added => &self.added[from..to],
         }

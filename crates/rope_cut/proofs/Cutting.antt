@@ -2,10 +2,9 @@
 use Rattle.std.proofs.Common.{◌≡◌, ℕ, ◌+◌, ◌-◌, ◌*◌, ◌<◌, ◌≤◌, max, List, ◌++◌, length, take, drop, sym, ap, ◌∙◌, subst, arith, length-drop, length-take, take-take}
 use lib.Seq.{take-append-le, take-append-add, drop-append-add}
 use Rattle.std.proofs.lemmas.List.{take_all, drop-append-le, drop-take, drop-drop}
-use Rattle.monoid.specs.Monoid.{Model}
 use Rattle.rope.specs.Tree.{Tree, leaf, text, size, height}
 use Rattle.rope.specs.Arena.{Splits}
-use Rattle.rope.specs.Memory.{arena_of, tree_of, Valid, Free, Takes}
+use Rattle.rope.specs.Memory.{arena_of, tree_of, Free, Takes}
 use Rattle.rope.specs.Steps.{Pushed}
 use Rattle.rope.specs.declared.store.Store.{Store}
 use Rattle.rope.proofs.Keeping.{takes_none, takes_trans, takes_within, free_after, free_less}
@@ -27,7 +26,7 @@ rejoin_low : (h c k x y : ℕ) → h ≡ max c k + 1 → x ≤ c → y ≤ max k
 rejoin_low h c k x y e low most = omega arith
 
 -- a child can be cut where the tree can
-module _ {V R : Type 0} {s : Store V R} {i l r : ℕ} (p : Partable s i) (e : Splits (arena_of s) i l r) where
+module _ {V R : Type 0} {kind : _} {s : Store V R kind} {i l r : ℕ} (p : Partable s i) (e : Splits (arena_of s) i l r) where
   pub left_partable : Partable s l
   left_partable =
       let high = splits_high e in
@@ -39,22 +38,22 @@ module _ {V R : Type 0} {s : Store V R} {i l r : ℕ} (p : Partable s i) (e : Sp
       record { below = omega (arith, p.below, e.right); short = omega (arith, splits_size e, p.short); free = free_less _ (4 * height (tree_of s i) + 1) (omega arith) p.free }
 
 -- a part of a child alone is one of the tree
-lifted : {V R : Type 0} {m : Model V R} {s s' : Store V R} {x : ℕ} {t u : Tree} {bs cs : List ℕ} → height t < height u → bs ≡ cs → Parted m s s' x t bs → Parted m s s' x u cs
+lifted : {V R : Type 0} {kind : _} {s s' : Store V R kind} {x : ℕ} {t u : Tree} {bs cs : List ℕ} → height t < height u → bs ≡ cs → Parted s s' x t bs → Parted s s' x u cs
 lifted h e q = record { takes = takes_within _ (omega arith) q.takes; below = q.below; text_is = q.text_is ∙ e; lower = omega (arith, q.lower) }
 
 -- a front of a tree over l and r
-module _ {V R : Type 0} {m : Model V R} {s : Store V R} {i l r : ℕ} (w : Valid s) (p : Partable s i) (e : Splits (arena_of s) i l r) (b : ℕ) where
-  pub front_left : {s' : Store V R} {x : ℕ} → b ≤ size (tree_of s l) → Parted m s s' x (tree_of s l) (take b (text (tree_of s l))) → Parted m s s' x (tree_of s i) (take b (text (tree_of s i)))
+module _ {V R : Type 0} {kind : _} {s : Store V R kind} {i l r : ℕ} (p : Partable s i) (e : Splits (arena_of s) i l r) (b : ℕ) where
+  pub front_left : {s' : Store V R kind} {x : ℕ} → b ≤ size (tree_of s l) → Parted s s' x (tree_of s l) (take b (text (tree_of s l))) → Parted s s' x (tree_of s i) (take b (text (tree_of s i)))
   front_left h q =
       let high = splits_high e in
       lifted (omega arith) (sym (take-append-le b (text (tree_of s l)) (text (tree_of s r)) h) ∙ ap (λ (t : Tree). take b (text t)) (sym e.tree)) q
 
-  module _ (n : ℕ) (long : n ≡ size (tree_of s l)) (past : n < b) {s1 : Store V R} {x : ℕ} (q : Parted m s s1 x (tree_of s r) (take (b - n) (text (tree_of s r)))) where
+  module _ (n : ℕ) (long : n ≡ size (tree_of s l)) (past : n < b) {s1 : Store V R kind} {x : ℕ} (q : Parted s s1 x (tree_of s r) (take (b - n) (text (tree_of s r)))) where
     stays : Knows s1 l (tree_of s l)
-    stays = knows_after q.takes (known w (omega (arith, p.below, e.left)))
+    stays = knows_after q.takes (known (omega (arith, p.below, e.left)))
 
     part : Knows s1 x (tree_of s1 x)
-    part = known q.takes.valid q.below
+    part = known q.below
 
     cost : apart (tree_of s l) (tree_of s1 x) ≡ apart (tree_of s1 l) (tree_of s1 x)
     cost = ap (λ (t : Tree). apart t (tree_of s1 x)) (sym stays.is)
@@ -65,7 +64,7 @@ module _ {V R : Type 0} {m : Model V R} {s : Store V R} {i l r : ℕ} (w : Valid
         joinable_of stays part (subst (Free s1) cost (free_after _ (4 * height (tree_of s i) + 1) room p.free q.takes))
         (omega (arith, splits_size e, p.short, ap length q.text_is, length-take (b - n) (text (tree_of s r))))
 
-    pub front_joined : {s2 : Store V R} {y : ℕ} → Joined m s1 s2 y (tree_of s1 l) (tree_of s1 x) (apart (tree_of s1 l) (tree_of s1 x)) → Parted m s s2 y (tree_of s i) (take b (text (tree_of s i)))
+    pub front_joined : {s2 : Store V R kind} {y : ℕ} → Joined s1 s2 y (tree_of s1 l) (tree_of s1 x) (apart (tree_of s1 l) (tree_of s1 x)) → Parted s s2 y (tree_of s i) (take b (text (tree_of s i)))
     front_joined {s2} {y} j =
         let k = joined_known stays part j in
         let tl = text (tree_of s l) in
@@ -74,15 +73,15 @@ module _ {V R : Type 0} {m : Model V R} {s : Store V R} {i l r : ℕ} (w : Valid
         let high = splits_high e in
         let most = rejoin_cost (height (tree_of s i)) (height (tree_of s r)) (height (tree_of s l)) (height (tree_of s1 x)) (height (tree_of s2 y)) (omega arith) e.right_near e.left_near q.lower k.least in
         record {
-          takes = takes_within _ most (takes_trans q.takes (subst (Takes m s1 s2) (sym cost) j.takes));
+          takes = takes_within _ most (takes_trans q.takes (subst (Takes s1 s2) (sym cost) j.takes));
           below = j.below;
           text_is = k.text_is ∙ ap (λ ys. tl ++ ys) q.text_is ∙ sym (take-append-add tl tr (b - n)) ∙ ap (λ c. take c (tl ++ tr)) at ∙ ap (λ (t : Tree). take b (text t)) (sym e.tree);
           lower = rejoin_low (height (tree_of s i)) (height (tree_of s r)) (height (tree_of s l)) (height (tree_of s1 x)) (height (tree_of s2 y)) (omega arith) q.lower k.most;
         }
 
 -- a back of a tree over l and r
-module _ {V R : Type 0} {m : Model V R} {s : Store V R} {i l r : ℕ} (w : Valid s) (p : Partable s i) (e : Splits (arena_of s) i l r) (a : ℕ) where
-  pub back_right : {s' : Store V R} {x : ℕ} (n : ℕ) → n ≡ size (tree_of s l) → n ≤ a → Parted m s s' x (tree_of s r) (drop (a - n) (text (tree_of s r))) → Parted m s s' x (tree_of s i) (drop a (text (tree_of s i)))
+module _ {V R : Type 0} {kind : _} {s : Store V R kind} {i l r : ℕ} (p : Partable s i) (e : Splits (arena_of s) i l r) (a : ℕ) where
+  pub back_right : {s' : Store V R kind} {x : ℕ} (n : ℕ) → n ≡ size (tree_of s l) → n ≤ a → Parted s s' x (tree_of s r) (drop (a - n) (text (tree_of s r))) → Parted s s' x (tree_of s i) (drop a (text (tree_of s i)))
   back_right n long h q =
       let tl = text (tree_of s l) in
       let tr = text (tree_of s r) in
@@ -90,12 +89,12 @@ module _ {V R : Type 0} {m : Model V R} {s : Store V R} {i l r : ℕ} (w : Valid
       let high = splits_high e in
       lifted (omega arith) (sym (drop-append-add tl tr (a - n)) ∙ ap (λ c. drop c (tl ++ tr)) at ∙ ap (λ (t : Tree). drop a (text t)) (sym e.tree)) q
 
-  module _ (h : a < size (tree_of s l)) {s1 : Store V R} {x : ℕ} (q : Parted m s s1 x (tree_of s l) (drop a (text (tree_of s l)))) where
+  module _ (h : a < size (tree_of s l)) {s1 : Store V R kind} {x : ℕ} (q : Parted s s1 x (tree_of s l) (drop a (text (tree_of s l)))) where
     rest : Knows s1 r (tree_of s r)
-    rest = knows_after q.takes (known w (omega (arith, p.below, e.right)))
+    rest = knows_after q.takes (known (omega (arith, p.below, e.right)))
 
     piece : Knows s1 x (tree_of s1 x)
-    piece = known q.takes.valid q.below
+    piece = known q.below
 
     price : apart (tree_of s r) (tree_of s1 x) ≡ apart (tree_of s1 x) (tree_of s1 r)
     price = apart_swap (tree_of s r) (tree_of s1 x) ∙ ap (apart (tree_of s1 x)) (sym rest.is)
@@ -106,23 +105,23 @@ module _ {V R : Type 0} {m : Model V R} {s : Store V R} {i l r : ℕ} (w : Valid
         joinable_of piece rest (subst (Free s1) price (free_after _ (4 * height (tree_of s i) + 1) room p.free q.takes))
         (omega (arith, splits_size e, p.short, ap length q.text_is, length-drop a (text (tree_of s l))))
 
-    pub back_joined : {s2 : Store V R} {y : ℕ} → Joined m s1 s2 y (tree_of s1 x) (tree_of s1 r) (apart (tree_of s1 x) (tree_of s1 r)) → Parted m s s2 y (tree_of s i) (drop a (text (tree_of s i)))
+    pub back_joined : {s2 : Store V R kind} {y : ℕ} → Joined s1 s2 y (tree_of s1 x) (tree_of s1 r) (apart (tree_of s1 x) (tree_of s1 r)) → Parted s s2 y (tree_of s i) (drop a (text (tree_of s i)))
     back_joined {s2} {y} j =
         let k = joined_known piece rest j in
         let tl = text (tree_of s l) in
         let tr = text (tree_of s r) in
         let most = rejoin_cost (height (tree_of s i)) (height (tree_of s l)) (height (tree_of s r)) (height (tree_of s1 x)) (height (tree_of s2 y)) (splits_high e) e.left_near e.right_near q.lower (omega (arith, k.least)) in
         record {
-          takes = takes_within _ most (takes_trans q.takes (subst (Takes m s1 s2) (sym price) j.takes));
+          takes = takes_within _ most (takes_trans q.takes (subst (Takes s1 s2) (sym price) j.takes));
           below = j.below;
           text_is = k.text_is ∙ ap (λ ys. ys ++ tr) q.text_is ∙ sym (drop-append-le a tl tr (omega arith)) ∙ ap (λ (t : Tree). drop a (text t)) (sym e.tree);
           lower = rejoin_low (height (tree_of s i)) (height (tree_of s l)) (height (tree_of s r)) (height (tree_of s1 x)) (height (tree_of s2 y)) (splits_high e) q.lower (omega (arith, k.most));
         }
 
-pub whole : {V R : Type 0} {m : Model V R} {s : Store V R} {i : ℕ} {bs : List ℕ} → Valid s → Partable s i → text (tree_of s i) ≡ bs → Parted m s s i (tree_of s i) bs
-whole {s} w p e = record { takes = takes_within _ (omega arith) (takes_none s w); below = p.below; text_is = e; lower = omega arith }
+pub whole : {V R : Type 0} {kind : _} {s : Store V R kind} {i : ℕ} {bs : List ℕ} → Partable s i → text (tree_of s i) ≡ bs → Parted s s i (tree_of s i) bs
+whole {s} p e = record { takes = takes_within _ (omega arith) (takes_none s); below = p.below; text_is = e; lower = omega arith }
 
-pub part_leaf : {V R : Type 0} {m : Model V R} {s s' : Store V R} {x : ℕ} {t : Tree} {us bs : List ℕ} → us ≡ bs → Pushed m s s' x (leaf us) → Parted m s s' x t bs
+pub part_leaf : {V R : Type 0} {kind : _} {s s' : Store V R kind} {x : ℕ} {t : Tree} {us bs : List ℕ} → us ≡ bs → Pushed s s' x (leaf us) → Parted s s' x t bs
 part_leaf e q =
     let h = ap height q.tree in
     record { takes = takes_within _ (omega arith) q.takes; below = omega (arith, q.at, q.one); text_is = ap text q.tree ∙ e; lower = omega arith }

@@ -1,44 +1,42 @@
 -- The steps of edits of texts at roots.
-use Rattle.std.proofs.Common.{◌≡◌, ℕ, ◌+◌, ◌-◌, ◌*◌, ◌^◌, ◌<◌, ◌≤◌, true, List, ◌++◌, length, take, drop, sym, refl, ap, ◌∙◌, arith, length-append, length-drop}
+use Rattle.std.proofs.Common.{◌≡◌, ℕ, ◌+◌, ◌-◌, ◌*◌, ◌^◌, ◌<◌, ◌≤◌, true, List, ◌++◌, length, take, drop, sym, refl, ap, ◌∙◌, arith, length-append, length-drop, Some, None}
 use Rattle.std.proofs.lemmas.List.{length-take-le, drop_all}
 use Rattle.std.proofs.lemmas.Slice.{between_is}
 use Rattle.std.proofs.lemmas.Bool.{ltb-true, lt-ltb}
 use Rattle.std.specs.List.{between}
-use Rattle.monoid.specs.Monoid.{Model}
 use Rattle.rope.specs.Tree.{text, height}
 use Rattle.rope.specs.Arena.{rooted}
-use Rattle.rope.specs.Memory.{Valid, Keeps, Free, Takes}
-use Rattle.rope.specs.declared.record.Root.{Root}
-use Rattle.rope.specs.declared.record.Root.TheVariants.{Empty, At}
+use Rattle.rope.specs.Memory.{Keeps, Free, Takes}
+use Rattle.rope.specs.Arena.{Root}
 use Rattle.rope.specs.declared.store.Store.{Store}
 use Rattle.rope.proofs.Keeping.{keeps_tree, takes_none, takes_trans, takes_within, free_after}
 use Rattle.rope_cut.specs.Parts.{Rooted, Makes, text_in, height_in, higher, cut_cost, join_cost, edit_need}
 
 -- a root stays one, with its text and its height
-pub record Stays {V R : Type 0} (s s' : Store V R) (p : Root) : Type 0 where
-  pub root : rooted s'.used p ≡ true
+pub record Stays {V R : Type 0} {kind : _} (s s' : Store V R kind) (p : Root) : Type 0 where
+  pub root : rooted s'.records.used p ≡ true
   pub text_is : text_in s' p ≡ text_in s p
   pub high : height_in s' p ≡ height_in s p
 
-pub root_stays : {V R : Type 0} {m : Model V R} {s s' : Store V R} → Valid s → Keeps m s s' → (p : Root) → rooted s.used p ≡ true → Stays s s' p
-root_stays w k Empty h = record { root = refl; text_is = refl; high = refl }
-root_stays {s} {s'} w k (At i) h =
-    let below = ltb-true i s.used h in
-    let same = keeps_tree w k i below in
-    record { root = lt-ltb i s'.used (omega (arith, k.records.more)); text_is = ap text same; high = ap height same }
+pub root_stays : {V R : Type 0} {kind : _} {s s' : Store V R kind} → Keeps s s' → (p : Root) → rooted s.records.used p ≡ true → Stays s s' p
+root_stays k None h = record { root = refl; text_is = refl; high = refl }
+root_stays {s} {s'} k (Some i) h =
+    let below = ltb-true i s.records.used h in
+    let same = keeps_tree k i below in
+    record { root = lt-ltb i s'.records.used (omega (arith, k.records.more)); text_is = ap text same; high = ap height same }
 
-pub rooted_stays : {V R : Type 0} {s s' : Store V R} {p : Root} → Stays s s' p → Rooted s p → Rooted s' p
+pub rooted_stays : {V R : Type 0} {kind : _} {s s' : Store V R kind} {p : Root} → Stays s s' p → Rooted s p → Rooted s' p
 rooted_stays k h = record { root = k.root; short = omega (arith, ap length k.text_is, h.short) }
 
 -- nothing is left behind the whole text
-pub back_none : {V R : Type 0} (m : Model V R) (s : Store V R) (p : Root) (a : ℕ) → Valid s → length (text_in s p) ≤ a → Makes m s s Empty (drop a (text_in s p)) (cut_cost (height_in s p) 0) (height_in s p)
-back_none m s p a w h =
-    record { takes = takes_within (cut_cost (height_in s p) 0) (omega arith) (takes_none s w); root = refl; text_is = sym (drop_all a (text_in s p) h); low = omega arith }
+pub back_none : {V R : Type 0} {kind : _} (s : Store V R kind) (p : Root) (a : ℕ) → length (text_in s p) ≤ a → Makes s s None (drop a (text_in s p)) (cut_cost (height_in s p) 0) (height_in s p)
+back_none s p a h =
+    record { takes = takes_within (cut_cost (height_in s p) 0) (omega arith) (takes_none s); root = refl; text_is = sym (drop_all a (text_in s p) h); low = omega arith }
 
-pub cut_done : {V R : Type 0} {m : Model V R} {s s1 s2 : Store V R} {q r : Root} (p : Root) (a b : ℕ)
-    → Makes m s s1 q (take b (text_in s p)) (cut_cost (height_in s p) (height_in s1 q)) (height_in s p)
-    → Makes m s1 s2 r (drop a (text_in s1 q)) (cut_cost (height_in s1 q) (height_in s2 r)) (height_in s1 q)
-    → Makes m s s2 r (between a b (text_in s p)) (edit_need (height_in s p)) (height_in s p)
+pub cut_done : {V R : Type 0} {kind : _} {s s1 s2 : Store V R kind} {q r : Root} (p : Root) (a b : ℕ)
+    → Makes s s1 q (take b (text_in s p)) (cut_cost (height_in s p) (height_in s1 q)) (height_in s p)
+    → Makes s1 s2 r (drop a (text_in s1 q)) (cut_cost (height_in s1 q) (height_in s2 r)) (height_in s1 q)
+    → Makes s s2 r (between a b (text_in s p)) (edit_need (height_in s p)) (height_in s p)
 cut_done {s} p a b x y =
     record {
       takes = takes_within (edit_need (height_in s p)) (omega (arith, x.low, y.low)) (takes_trans x.takes y.takes);
@@ -47,15 +45,15 @@ cut_done {s} p a b x y =
       low = omega (arith, x.low, y.low);
     }
 
-module _ {V R : Type 0} {m : Model V R} {s s1 : Store V R} {p q before : Root} {a b : ℕ} (w : Valid s)
+module _ {V R : Type 0} {kind : _} {s s1 : Store V R kind} {p q before : Root} {a b : ℕ}
     (rooted_both : Rooted s p × Rooted s q) (ordered : (a ≤ b) × (b ≤ length (text_in s p)))
     (short : length (text_in s p) - (b - a) + length (text_in s q) < 2 ^ 32) (free : Free s (edit_need (higher s p q)))
-    (x : Makes m s s1 before (take a (text_in s p)) (cut_cost (height_in s p) (height_in s1 before)) (height_in s p)) where
+    (x : Makes s s1 before (take a (text_in s p)) (cut_cost (height_in s p) (height_in s1 before)) (height_in s p)) where
   p1 : Stays s s1 p
-  p1 = root_stays w x.takes.keeps p rooted_both.0.root
+  p1 = root_stays x.takes.keeps p rooted_both.0.root
 
   q1 : Stays s s1 q
-  q1 = root_stays w x.takes.keeps q rooted_both.1.root
+  q1 = root_stays x.takes.keeps q rooted_both.1.root
 
   pub second_rooted : Rooted s1 p
   second_rooted = rooted_stays p1 rooted_both.0
@@ -66,12 +64,12 @@ module _ {V R : Type 0} {m : Model V R} {s s1 : Store V R} {p q before : Root} {
   pub second_free : Free s1 (4 * height_in s1 p + 1)
   second_free = free_after (4 * height_in s1 p + 1) (edit_need (higher s p q)) (omega (arith, x.low, p1.high)) free x.takes
 
-  module _ {s2 : Store V R} {behind : Root} (y : Makes m s1 s2 behind (drop b (text_in s1 p)) (cut_cost (height_in s1 p) (height_in s2 behind)) (height_in s1 p)) where
+  module _ {s2 : Store V R kind} {behind : Root} (y : Makes s1 s2 behind (drop b (text_in s1 p)) (cut_cost (height_in s1 p) (height_in s2 behind)) (height_in s1 p)) where
     q2 : Stays s1 s2 q
-    q2 = root_stays x.takes.valid y.takes.keeps q q1.root
+    q2 = root_stays y.takes.keeps q q1.root
 
     before2 : Stays s1 s2 before
-    before2 = root_stays x.takes.valid y.takes.keeps before x.root
+    before2 = root_stays y.takes.keeps before x.root
 
     behind_is : text_in s2 behind ≡ drop b (text_in s p)
     behind_is = y.text_is ∙ ap (drop b) p1.text_is
@@ -85,7 +83,7 @@ module _ {V R : Type 0} {m : Model V R} {s s1 : Store V R} {p q before : Root} {
     before_size : length (text_in s1 before) ≡ a
     before_size = ap length x.text_is ∙ length-take-le a (text_in s p) (omega (arith, ordered.0, ordered.1))
 
-    two : Takes m s s2 (8 * height_in s p + 2)
+    two : Takes s s2 (8 * height_in s p + 2)
     two = takes_within (8 * height_in s p + 2) (omega (arith, x.low, y.low, p1.high)) (takes_trans x.takes y.takes)
 
     pub tail_rooted : Rooted s2 q × Rooted s2 behind
@@ -97,9 +95,9 @@ module _ {V R : Type 0} {m : Model V R} {s s1 : Store V R} {p q before : Root} {
     pub tail_free : Free s2 (join_cost s2 q behind)
     tail_free = free_after (join_cost s2 q behind) (edit_need (higher s p q)) (omega (arith, q1.high, q2.high, y.low, p1.high)) free two
 
-    module _ {s3 : Store V R} {tail : Root} (z : Makes m s2 s3 tail (text_in s2 q ++ text_in s2 behind) (join_cost s2 q behind) (higher s2 q behind + 1)) where
+    module _ {s3 : Store V R kind} {tail : Root} (z : Makes s2 s3 tail (text_in s2 q ++ text_in s2 behind) (join_cost s2 q behind) (higher s2 q behind + 1)) where
       before3 : Stays s2 s3 before
-      before3 = root_stays y.takes.valid z.takes.keeps before before2.root
+      before3 = root_stays z.takes.keeps before before2.root
 
       before_is : text_in s3 before ≡ take a (text_in s p)
       before_is = before3.text_is ∙ before2.text_is ∙ x.text_is
@@ -116,7 +114,7 @@ module _ {V R : Type 0} {m : Model V R} {s s1 : Store V R} {p q before : Root} {
       tail_low : height_in s3 tail ≤ higher s p q + 1
       tail_low = omega (arith, z.low, q1.high, q2.high, y.low, p1.high)
 
-      three : Takes m s s3 (11 * higher s p q + 3)
+      three : Takes s s3 (11 * higher s p q + 3)
       three = takes_within (11 * higher s p q + 3) (omega (arith, q1.high, q2.high, y.low, p1.high)) (takes_trans two z.takes)
 
       pub last_rooted : Rooted s3 before × Rooted s3 tail
@@ -131,8 +129,8 @@ module _ {V R : Type 0} {m : Model V R} {s s1 : Store V R} {p q before : Root} {
       pub last_free : Free s3 (join_cost s3 before tail)
       last_free = free_after (join_cost s3 before tail) (edit_need (higher s p q)) (omega (arith, before_low, tail_low)) free three
 
-      pub splice_done : {s4 : Store V R} {r : Root} → Makes m s3 s4 r (text_in s3 before ++ text_in s3 tail) (join_cost s3 before tail) (higher s3 before tail + 1)
-          → Makes m s s4 r (take a (text_in s p) ++ (text_in s q ++ drop b (text_in s p))) (edit_need (higher s p q)) (higher s p q + 2)
+      pub splice_done : {s4 : Store V R kind} {r : Root} → Makes s3 s4 r (text_in s3 before ++ text_in s3 tail) (join_cost s3 before tail) (higher s3 before tail + 1)
+          → Makes s s4 r (take a (text_in s p) ++ (text_in s q ++ drop b (text_in s p))) (edit_need (higher s p q)) (higher s p q + 2)
       splice_done v =
           record {
             takes = takes_within (edit_need (higher s p q)) (omega (arith, before_low, tail_low)) (takes_trans three v.takes);

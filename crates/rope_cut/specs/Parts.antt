@@ -1,15 +1,14 @@
 -- What the edits of a tree need and give.
 use Rattle.std.specs.Prelude.{◌≡◌, ℕ, ◌+◌, ◌-◌, ◌*◌, ◌^◌, ◌<◌, ◌≤◌, max, true, List, length}
-use Rattle.monoid.specs.Monoid.{Model}
 use Rattle.rope.specs.Tree.{Tree, text, size, height}
 use Rattle.rope.specs.Arena.{text_of, height_of, rooted}
 use Rattle.rope.specs.Memory.{arena_of, tree_of, Free, Takes}
-use Rattle.rope.specs.declared.record.Root.{Root}
+use Rattle.rope.specs.Arena.{Root}
 use Rattle.rope.specs.declared.store.Store.{Store}
 
 -- what it takes to cut the tree of record i
-pub record Partable {V R : Type 0} (s : Store V R) (i : ℕ) : Type 0 where
-  pub below : i < s.used
+pub record Partable {V R : Type 0} {kind : _} (s : Store V R kind) (i : ℕ) : Type 0 where
+  pub below : i < s.records.used
   pub short : size (tree_of s i) < 2 ^ 32
   pub free : Free s (4 * height (tree_of s i) + 1)
 
@@ -18,36 +17,36 @@ abbrev pub cut_cost : ℕ → ℕ → ℕ
 cut_cost h k = 3 * k + h + 1
 
 -- x is a tree of the text bs, a front or a back of the tree t, and no higher
-pub record Parted {V R : Type 0} (m : Model V R) (s s' : Store V R) (x : ℕ) (t : Tree) (bs : List ℕ) : Type 0 where
-  pub takes : Takes m s s' (cut_cost (height t) (height (tree_of s' x)))
-  pub below : x < s'.used
+pub record Parted {V R : Type 0} {kind : _} (s s' : Store V R kind) (x : ℕ) (t : Tree) (bs : List ℕ) : Type 0 where
+  pub takes : Takes s s' (cut_cost (height t) (height (tree_of s' x)))
+  pub below : x < s'.records.used
   pub text_is : text (tree_of s' x) ≡ bs
   pub lower : height (tree_of s' x) ≤ height t
 
 -- the text and the height at a root
-abbrev pub text_in : {V R : Type 0} → Store V R → Root → List ℕ
+abbrev pub text_in : {V R : Type 0} {kind : _} → Store V R kind → Root → List ℕ
 text_in s p = text_of (arena_of s) p
 
-abbrev pub height_in : {V R : Type 0} → Store V R → Root → ℕ
+abbrev pub height_in : {V R : Type 0} {kind : _} → Store V R kind → Root → ℕ
 height_in s p = height_of (arena_of s) p
 
-abbrev pub higher : {V R : Type 0} → Store V R → Root → Root → ℕ
+abbrev pub higher : {V R : Type 0} {kind : _} → Store V R kind → Root → Root → ℕ
 higher s p q = max (height_in s p) (height_in s q)
 
 -- p is a root of s, and its length fits a record
-pub record Rooted {V R : Type 0} (s : Store V R) (p : Root) : Type 0 where
-  pub root : rooted s.used p ≡ true
+pub record Rooted {V R : Type 0} {kind : _} (s : Store V R kind) (p : Root) : Type 0 where
+  pub root : rooted s.records.used p ≡ true
   pub short : length (text_in s p) < 2 ^ 32
 
 -- r is a root of the text bs, at most h high, for at most n records
-pub record Makes {V R : Type 0} (m : Model V R) (s s' : Store V R) (r : Root) (bs : List ℕ) (n h : ℕ) : Type 0 where
-  pub takes : Takes m s s' n
-  pub root : rooted s'.used r ≡ true
+pub record Makes {V R : Type 0} {kind : _} (s s' : Store V R kind) (r : Root) (bs : List ℕ) (n h : ℕ) : Type 0 where
+  pub takes : Takes s s' n
+  pub root : rooted s'.records.used r ≡ true
   pub text_is : text_in s' r ≡ bs
   pub low : height_in s' r ≤ h
 
 -- the records that a join of two roots may take
-abbrev pub join_cost : {V R : Type 0} → Store V R → Root → Root → ℕ
+abbrev pub join_cost : {V R : Type 0} {kind : _} → Store V R kind → Root → Root → ℕ
 join_cost s p q = 3 * ((height_in s p - height_in s q) + (height_in s q - height_in s p) - 1) + 1
 
 -- the need of an edit of texts that are at most h high

@@ -1,30 +1,35 @@
-//! Parts of trees as trees: fronts and backs, and the edits that are made of them.
+//! Parts of trees as trees: fronts and backs, and the edits that are made of them. A back is no front with a side turned:
+//! the one ends at a place above 0, the other begins at one below the length. The store and a root are two
+//! arguments, as in `rope_join`; a part is two places, of which one at a time goes down the tree.
 #![tactic(auto)]
 
 ghost use Rattle.std.specs.Prelude.{◌+◌, ◌-◌, ◌*◌, ◌^◌, ◌<◌, ◌≤◌, ◌++◌, length, take, drop};
 ghost use Rattle.std.specs.List.{between};
 ghost use Rattle.rope.specs.Tree.{text, size};
-ghost use Rattle.rope.specs.Memory.{Valid, Free, tree_of};
+ghost use Rattle.rope.specs.Memory.{Free, tree_of};
 ghost use Rattle.rope_cut.specs.Parts.{Partable, Parted, Rooted, Makes, cut_cost, join_cost, edit_need, text_in, height_in, higher};
 
 use monoid::Monoid;
-use rope::record::{Root, Shape};
+use rope::record::{Piece, Root, Shape};
 use rope::store::Store;
 use rope_join::join;
 
 /// The first `b` bytes of the tree `i`.
 fn front_at<'b, 'a, M: Monoid>(store: &mut Store<'b, 'a, M>, i: u32, b: u32) -> u32
-    requires valid { Valid store.old }
     requires partable { Partable store.old i }
     requires within { (0 < b) × (b ≤ size (tree_of store.old i)) }
-    ensures { Parted M.Monoid.model store.old store.new result (tree_of store.old i) (take b (text (tree_of store.old i))) }
+    ensures { Parted store.old store.new result (tree_of store.old i) (take b (text (tree_of store.old i))) }
 {
     let top = store.record(i);
     if b == top.length {
         return i;
     }
     match top.shape {
-        Shape::Leaf { source, start } => store.push_leaf(source, start, b),
+        Shape::Leaf { source, start } => store.push_leaf(Piece {
+            source,
+            start,
+            len: b,
+        }),
         Shape::Inner { left, right } => {
             let split = store.record(left).length;
             if b <= split {
@@ -39,17 +44,20 @@ fn front_at<'b, 'a, M: Monoid>(store: &mut Store<'b, 'a, M>, i: u32, b: u32) -> 
 
 /// The bytes of the tree `i` from the place `a` on.
 fn back_at<'b, 'a, M: Monoid>(store: &mut Store<'b, 'a, M>, i: u32, a: u32) -> u32
-    requires valid { Valid store.old }
     requires partable { Partable store.old i }
     requires within { a < size (tree_of store.old i) }
-    ensures { Parted M.Monoid.model store.old store.new result (tree_of store.old i) (drop a (text (tree_of store.old i))) }
+    ensures { Parted store.old store.new result (tree_of store.old i) (drop a (text (tree_of store.old i))) }
 {
     if a == 0 {
         return i;
     }
     let top = store.record(i);
     match top.shape {
-        Shape::Leaf { source, start } => store.push_leaf(source, start + a, top.length - a),
+        Shape::Leaf { source, start } => store.push_leaf(Piece {
+            source,
+            start: start + a,
+            len: top.length - a,
+        }),
         Shape::Inner { left, right } => {
             let split = store.record(left).length;
             if a >= split {
@@ -64,65 +72,52 @@ fn back_at<'b, 'a, M: Monoid>(store: &mut Store<'b, 'a, M>, i: u32, a: u32) -> u
 
 /// The text at `root` up to the place `b`.
 pub fn front<'b, 'a, M: Monoid>(store: &mut Store<'b, 'a, M>, root: Root, b: u32) -> Root
-    requires valid { Valid store.old }
     requires rooted { Rooted store.old root }
     requires within { b ≤ length (text_in store.old root) }
     requires free { Free store.old (4 * height_in store.old root + 1) }
-    ensures { Makes M.Monoid.model store.old store.new result (take b (text_in store.old root)) (cut_cost (height_in store.old root) (height_in store.new result)) (height_in store.old root) }
+    ensures { Makes store.old store.new result (take b (text_in store.old root)) (cut_cost (height_in store.old root) (height_in store.new result)) (height_in store.old root) }
 {
     if b == 0 {
-        return Root::Empty;
+        return None;
     }
-    match root {
-        Root::Empty => Root::Empty,
-        Root::At(i) => Root::At(front_at(store, i, b)),
-    }
+    Some(front_at(store, root?, b))
 }
 
 /// The text at `root` from the place `a` on.
 pub fn back<'b, 'a, M: Monoid>(store: &mut Store<'b, 'a, M>, root: Root, a: u32) -> Root
-    requires valid { Valid store.old }
     requires rooted { Rooted store.old root }
     requires within { a ≤ length (text_in store.old root) }
     requires free { Free store.old (4 * height_in store.old root + 1) }
-    ensures { Makes M.Monoid.model store.old store.new result (drop a (text_in store.old root)) (cut_cost (height_in store.old root) (height_in store.new result)) (height_in store.old root) }
+    ensures { Makes store.old store.new result (drop a (text_in store.old root)) (cut_cost (height_in store.old root) (height_in store.new result)) (height_in store.old root) }
 {
-    match root {
-        Root::Empty => Root::Empty,
-        Root::At(i) => {
-            if a == store.record(i).length {
-                return Root::Empty;
-            }
-            Root::At(back_at(store, i, a))
-        }
+    let i = root?;
+    if a == store.record(i).length {
+        return None;
     }
+    Some(back_at(store, i, a))
 }
 
 /// The text at `left` and then that at `right`.
 pub fn join_roots<'b, 'a, M: Monoid>(store: &mut Store<'b, 'a, M>, left: Root, right: Root) -> Root
-    requires valid { Valid store.old }
     requires rooted { Rooted store.old left × Rooted store.old right }
     requires short { length (text_in store.old left) + length (text_in store.old right) < 2 ^ 32 }
     requires free { Free store.old (join_cost store.old left right) }
-    ensures makes { Makes M.Monoid.model store.old store.new result (text_in store.old left ++ text_in store.old right) (join_cost store.old left right) (higher store.old left right + 1) }
+    ensures makes { Makes store.old store.new result (text_in store.old left ++ text_in store.old right) (join_cost store.old left right) (higher store.old left right + 1) }
     ensures least { higher store.old left right ≤ height_in store.new result }
 {
-    match left {
-        Root::Empty => right,
-        Root::At(i) => match right {
-            Root::Empty => left,
-            Root::At(j) => Root::At(join(store, i, j)),
-        },
+    match (left, right) {
+        (Some(i), Some(j)) => Some(join(store, i, j)),
+        (Some(_), None) => left,
+        (None, _) => right,
     }
 }
 
 /// The part `a` to `b` of the text at `root`.
 pub fn cut<'b, 'a, M: Monoid>(store: &mut Store<'b, 'a, M>, root: Root, a: u32, b: u32) -> Root
-    requires valid { Valid store.old }
     requires rooted { Rooted store.old root }
     requires part { (a ≤ b) × (b ≤ length (text_in store.old root)) }
     requires free { Free store.old (edit_need (height_in store.old root)) }
-    ensures { Makes M.Monoid.model store.old store.new result (between a b (text_in store.old root)) (edit_need (height_in store.old root)) (height_in store.old root) }
+    ensures { Makes store.old store.new result (between a b (text_in store.old root)) (edit_need (height_in store.old root)) (height_in store.old root) }
 {
     let before = front(store, root, b);
     back(store, before, a)
@@ -136,12 +131,11 @@ pub fn splice<'b, 'a, M: Monoid>(
     b: u32,
     other: Root,
 ) -> Root
-    requires valid { Valid store.old }
     requires rooted { Rooted store.old root × Rooted store.old other }
     requires part { (a ≤ b) × (b ≤ length (text_in store.old root)) }
     requires short { length (text_in store.old root) - (b - a) + length (text_in store.old other) < 2 ^ 32 }
     requires free { Free store.old (edit_need (higher store.old root other)) }
-    ensures { Makes M.Monoid.model store.old store.new result (take a (text_in store.old root) ++ (text_in store.old other ++ drop b (text_in store.old root))) (edit_need (higher store.old root other)) (higher store.old root other + 2) }
+    ensures { Makes store.old store.new result (take a (text_in store.old root) ++ (text_in store.old other ++ drop b (text_in store.old root))) (edit_need (higher store.old root other)) (higher store.old root other + 2) }
 {
     let before = front(store, root, a);
     let behind = back(store, root, b);

@@ -1,10 +1,12 @@
-//! The join of two trees of any heights, with rotations.
+//! The join of two trees of any heights, with rotations. What is said of the left stands once more for the right: a side
+//! as a parameter would be asked for in every line, and every proof would go by cases over it. Trees are named by numbers
+//! beside the store that holds them, and the contracts relate them: a type that held both would lend the store, which grows.
 #![tactic(auto)]
 
 ghost use Rattle.std.specs.Prelude.{◌≡◌, ◌+◌, ◌-◌, ◌<◌, ◌≤◌};
 ghost use Rattle.rope.specs.Tree.{height};
 ghost use Rattle.rope.specs.Arena.{Splits};
-ghost use Rattle.rope.specs.Memory.{Valid, arena_of, tree_of};
+ghost use Rattle.rope.specs.Memory.{arena_of, tree_of};
 ghost use Rattle.rope_join.specs.Joins.{apart, Joinable, Joined, Threes, Middled};
 
 use monoid::Monoid;
@@ -13,8 +15,7 @@ use rope::store::Store;
 
 /// How much higher `i` is than `j`, or 0.
 fn gap<'b, 'a, M: Monoid>(store: &Store<'b, 'a, M>, i: u32, j: u32) -> u8
-    requires valid { Valid store.now }
-    requires below { (i < store.now.used) × (j < store.now.used) }
+    requires { (i < store.now.records.used) × (j < store.now.records.used) }
     ensures { result ≡ height (tree_of store.now i) - height (tree_of store.now j) }
 {
     let other = store.record(j).height;
@@ -23,8 +24,7 @@ fn gap<'b, 'a, M: Monoid>(store: &Store<'b, 'a, M>, i: u32, j: u32) -> u8
 
 /// Both children of a tree that is no leaf.
 fn children<'b, 'a, M: Monoid>(store: &Store<'b, 'a, M>, i: u32) -> (u32, u32)
-    requires valid { Valid store.now }
-    requires below { i < store.now.used }
+    requires below { i < store.now.records.used }
     requires high { 0 < height (tree_of store.now i) }
     ensures { Splits (arena_of store.now) i result.0 result.1 }
 {
@@ -39,9 +39,8 @@ fn children<'b, 'a, M: Monoid>(store: &Store<'b, 'a, M>, i: u32) -> (u32, u32)
 
 /// The double rotation: the children of the middle tree go to its two neighbours.
 fn middle<'b, 'a, M: Monoid>(store: &mut Store<'b, 'a, M>, left: u32, mid: u32, right: u32) -> u32
-    requires valid { Valid store.old }
-    requires threes { Threes store.old left mid right }
-    ensures { Middled M.Monoid.model store.old store.new result (tree_of store.old left) (tree_of store.old mid) (tree_of store.old right) }
+    requires { Threes store.old left mid right }
+    ensures { Middled store.old store.new result (tree_of store.old left) (tree_of store.old mid) (tree_of store.old right) }
 {
     let (c, d) = children(store, mid);
     let l = store.push_inner(left, c);
@@ -51,10 +50,9 @@ fn middle<'b, 'a, M: Monoid>(store: &mut Store<'b, 'a, M>, left: u32, mid: u32, 
 
 /// The join of two trees of which the right one is higher by two.
 fn turn_left<'b, 'a, M: Monoid>(store: &mut Store<'b, 'a, M>, left: u32, right: u32) -> u32
-    requires valid { Valid store.old }
     requires joinable { Joinable store.old left right 3 }
     requires heavy { height (tree_of store.old right) ≡ height (tree_of store.old left) + 2 }
-    ensures { Joined M.Monoid.model store.old store.new result (tree_of store.old left) (tree_of store.old right) 3 }
+    ensures { Joined store.old store.new result (tree_of store.old left) (tree_of store.old right) 3 }
 {
     let (a, b) = children(store, right);
     if gap(store, a, b) > 0 {
@@ -66,10 +64,9 @@ fn turn_left<'b, 'a, M: Monoid>(store: &mut Store<'b, 'a, M>, left: u32, right: 
 
 /// The join of two trees of which the left one is higher by two.
 fn turn_right<'b, 'a, M: Monoid>(store: &mut Store<'b, 'a, M>, left: u32, right: u32) -> u32
-    requires valid { Valid store.old }
     requires joinable { Joinable store.old left right 3 }
     requires heavy { height (tree_of store.old left) ≡ height (tree_of store.old right) + 2 }
-    ensures { Joined M.Monoid.model store.old store.new result (tree_of store.old left) (tree_of store.old right) 3 }
+    ensures { Joined store.old store.new result (tree_of store.old left) (tree_of store.old right) 3 }
 {
     let (a, b) = children(store, left);
     if gap(store, b, a) > 0 {
@@ -81,10 +78,9 @@ fn turn_right<'b, 'a, M: Monoid>(store: &mut Store<'b, 'a, M>, left: u32, right:
 
 /// The join of two trees whose heights differ by at most two.
 fn balance<'b, 'a, M: Monoid>(store: &mut Store<'b, 'a, M>, left: u32, right: u32) -> u32
-    requires valid { Valid store.old }
     requires joinable { Joinable store.old left right 3 }
     requires near { (height (tree_of store.old left) ≤ height (tree_of store.old right) + 2) × (height (tree_of store.old right) ≤ height (tree_of store.old left) + 2) }
-    ensures { Joined M.Monoid.model store.old store.new result (tree_of store.old left) (tree_of store.old right) 3 }
+    ensures { Joined store.old store.new result (tree_of store.old left) (tree_of store.old right) 3 }
 {
     if gap(store, right, left) > 1 {
         return turn_left(store, left, right);
@@ -98,9 +94,8 @@ fn balance<'b, 'a, M: Monoid>(store: &mut Store<'b, 'a, M>, left: u32, right: u3
 /// A tree of the text of `left` and then that of `right`. The shorter tree goes down the other's near side to its own
 /// height, and each level above is balanced again.
 pub fn join<'b, 'a, M: Monoid>(store: &mut Store<'b, 'a, M>, left: u32, right: u32) -> u32
-    requires valid { Valid store.old }
-    requires joinable { Joinable store.old left right (apart (tree_of store.old left) (tree_of store.old right)) }
-    ensures { Joined M.Monoid.model store.old store.new result (tree_of store.old left) (tree_of store.old right) (apart (tree_of store.old left) (tree_of store.old right)) }
+    requires { Joinable store.old left right (apart (tree_of store.old left) (tree_of store.old right)) }
+    ensures { Joined store.old store.new result (tree_of store.old left) (tree_of store.old right) (apart (tree_of store.old left) (tree_of store.old right)) }
 {
     if gap(store, left, right) > 1 {
         let (a, b) = children(store, left);

@@ -1,14 +1,12 @@
 -- The steps of keeping a text.
-use Rattle.std.proofs.Common.{◌≡◌, ℕ, ◌+◌, ◌^◌, ◌<◌, ◌≤◌, max, List, [], ◌∷◌, ◌++◌, length, take, drop, sym, refl, ap, ◌∙◌, append-nil, arith, length-append}
+use Rattle.std.proofs.Common.{◌≡◌, ℕ, ◌+◌, ◌^◌, ◌<◌, ◌≤◌, max, List, [], ◌∷◌, ◌++◌, length, take, drop, sym, refl, ap, ◌∙◌, append-nil, arith, length-append, Some, None}
 use Rattle.std.proofs.lemmas.List.{take_all, drop_at, length-take-le}
 use Rattle.std.proofs.lemmas.Bool.{lt-ltb}
-use Rattle.monoid.specs.Monoid.{Model}
 use Rattle.rope.specs.Tree.{height}
 use Rattle.rope.specs.Arena.{part}
-use Rattle.rope.specs.Memory.{arena_of, tree_of, Valid, Free}
+use Rattle.rope.specs.Memory.{arena_of, tree_of, Free}
 use Rattle.rope.specs.Steps.{leaves, Appended, Buildable, Built}
-use Rattle.rope.specs.declared.record.Root.{Root}
-use Rattle.rope.specs.declared.record.Root.TheVariants.{Empty, At}
+use Rattle.rope.specs.Arena.{Root}
 use Rattle.rope.specs.declared.record.Source.{Source}
 use Rattle.rope.specs.declared.record.Source.TheVariants.{Added}
 use Rattle.rope.specs.declared.store.Store.{Store}
@@ -22,37 +20,36 @@ nothing : (bs : List ℕ) → length bs ≡ 0 → bs ≡ []
 nothing [] e = refl
 nothing (b ∷ bs) e = absurd (omega arith)
 
-pub stands_empty : {V R : Type 0} (s : Store V R) (bs : List ℕ) → length bs ≡ 0 → Stands s Empty bs
+pub stands_empty : {V R : Type 0} {kind : _} (s : Store V R kind) (bs : List ℕ) → length bs ≡ 0 → Stands s None bs
 stands_empty s bs e = record { root = refl; text_is = sym (nothing bs e); low = λ h. absurd (omega arith); six = λ _. omega arith }
 
-pub grows_none : {V R : Type 0} (m : Model V R) (s : Store V R) (bs : List ℕ) (n : ℕ) → Valid s → length bs ≡ 0 → Grows m s s bs n
-grows_none m s bs n w e =
+pub grows_none : {V R : Type 0} {kind : _} (s : Store V R kind) (bs : List ℕ) (n : ℕ) → length bs ≡ 0 → Grows s s bs n
+grows_none s bs n e =
     record {
       keeps = keeps_none s;
       added_used = omega arith;
       added = sym (append-nil (arena_of s).added) ∙ ap (λ (xs : List ℕ). (arena_of s).added ++ xs) (sym (nothing bs e));
       cost = omega arith;
-      valid = w;
     }
 
-pub stands_built : {V R : Type 0} {m : Model V R} {s t : Store V R} {r : ℕ} (source : Source) (start n : ℕ) (bs : List ℕ) → Built m s t r source start n → part (arena_of s) source start n ≡ bs → length bs ≡ n → Stands t (At r) bs
+pub stands_built : {V R : Type 0} {kind : _} {s t : Store V R kind} {r : ℕ} (source : Source) (start n : ℕ) (bs : List ℕ) → Built s t r source start n → part (arena_of s) source start n ≡ bs → length bs ≡ n → Stands t (Some r) bs
 stands_built {t} {r} source start n bs b is long =
     let more = ap leaves long in
     record {
-      root = lt-ltb r t.used b.below;
+      root = lt-ltb r t.records.used b.below;
       text_is = b.text_is ∙ is;
       low = λ h. omega (arith, b.low h, more);
       six = λ h. level_most (height (tree_of t r)) (leaves n) 6 (record { high = b.high; low = b.low }) (omega arith);
     }
 
-module _ {V R : Type 0} {m : Model V R} {s s1 : Store V R} {at : ℕ} {bs : List ℕ} (w : Valid s) (free : Free s (need_of_text (length bs))) (some : 0 < length bs) (p : Appended m s s1 at bs) where
+module _ {V R : Type 0} {kind : _} {s s1 : Store V R kind} {at : ℕ} {bs : List ℕ} (free : Free s (need_of_text (length bs))) (some : 0 < length bs) (p : Appended s s1 at bs) where
   long : length (arena_of s).added ≡ at
-  long = length-take-le s.added_used s.added.now w.added_within ∙ sym p.at
+  long = length-take-le s.added.used s.added.memory.now s.added.within ∙ sym p.at
 
   pub kept_buildable : Buildable s1 Added at (length bs)
   kept_buildable =
       record {
-        free = record { room = omega (arith, free.room, ap length p.records, p.used); few = omega (arith, free.few, p.used) };
+        free = record { room = omega (arith, free.room, ap (λ r. length r.memory.now) p.records, ap (λ r. r.used) p.records); few = omega (arith, free.few, ap (λ r. r.used) p.records) };
         some = some;
         within = omega (arith, ap length p.added, long, length-append (arena_of s).added bs);
       }
@@ -63,21 +60,20 @@ module _ {V R : Type 0} {m : Model V R} {s s1 : Store V R} {at : ℕ} {bs : List
       ∙ ap (take (length bs)) (drop_at (arena_of s).added bs at long)
       ∙ take_all (length bs) bs (omega arith)
 
-  pub kept_grows : {s2 : Store V R} {r : ℕ} → Built m s1 s2 r Added at (length bs) → Grows m s s2 bs (need_of_text (length bs))
+  pub kept_grows : {s2 : Store V R kind} {r : ℕ} → Built s1 s2 r Added at (length bs) → Grows s s2 bs (need_of_text (length bs))
   kept_grows {s2} b =
-      let same : (arena_of s2).added ≡ (arena_of s1).added = ap (λ i. take i s2.added.now) b.takes.added ∙ b.takes.keeps.added.before in
+      let same : (arena_of s2).added ≡ (arena_of s1).added = ap (λ i. take i s2.added.memory.now) b.takes.added ∙ b.takes.keeps.added.before in
       record {
         keeps = keeps_trans p.keeps b.takes.keeps;
         added_used = b.takes.added ∙ p.more;
         added = same ∙ p.added;
-        cost = omega (arith, b.takes.cost, p.used);
-        valid = b.takes.valid;
+        cost = omega (arith, b.takes.cost, ap (λ r. r.used) p.records);
       }
 
-module _ {V R : Type 0} {m : Model V R} {s s1 : Store V R} {p more : Root} {bs : List ℕ} (w : Valid s) (here : Rooted s p) (short : (length bs ≤ 4096) × (length (text_in s p) + length bs < 2 ^ 32))
-    (free : Free s (add_need (height_in s p) (length bs))) (grown : Grows m s s1 bs (need_of_text (length bs))) (stood : Stands s1 more bs) where
+module _ {V R : Type 0} {kind : _} {s s1 : Store V R kind} {p more : Root} {bs : List ℕ} (here : Rooted s p) (short : (length bs ≤ 4096) × (length (text_in s p) + length bs < 2 ^ 32))
+    (free : Free s (add_need (height_in s p) (length bs))) (grown : Grows s s1 bs (need_of_text (length bs))) (stood : Stands s1 more bs) where
   p1 : Stays s s1 p
-  p1 = root_stays w grown.keeps p here.root
+  p1 = root_stays grown.keeps p here.root
 
   low : height_in s1 more ≤ 6
   low = stood.six short.0
@@ -94,16 +90,15 @@ module _ {V R : Type 0} {m : Model V R} {s s1 : Store V R} {p more : Root} {bs :
   pub both_free : Free s1 (join_cost s1 p more)
   both_free = record { room = omega (arith, cheap, free.room, grown.cost, grown.keeps.records.room); few = omega (arith, cheap, free.few, grown.cost) }
 
-  module _ {s2 : Store V R} {r : Root} (j : Makes m s1 s2 r (text_in s1 p ++ text_in s1 more) (join_cost s1 p more) (higher s1 p more + 1)) where
-    pub longer_grows : Grows m s s2 bs (add_need (height_in s p) (length bs))
+  module _ {s2 : Store V R kind} {r : Root} (j : Makes s1 s2 r (text_in s1 p ++ text_in s1 more) (join_cost s1 p more) (higher s1 p more + 1)) where
+    pub longer_grows : Grows s s2 bs (add_need (height_in s p) (length bs))
     longer_grows =
-        let same : (arena_of s2).added ≡ (arena_of s1).added = ap (λ i. take i s2.added.now) j.takes.added ∙ j.takes.keeps.added.before in
+        let same : (arena_of s2).added ≡ (arena_of s1).added = ap (λ i. take i s2.added.memory.now) j.takes.added ∙ j.takes.keeps.added.before in
         record {
           keeps = keeps_trans grown.keeps j.takes.keeps;
           added_used = j.takes.added ∙ grown.added_used;
           added = same ∙ grown.added;
           cost = omega (arith, grown.cost, j.takes.cost, cheap);
-          valid = j.takes.valid;
         }
 
     pub longer_text : text_in s2 r ≡ text_in s p ++ bs

@@ -1,10 +1,9 @@
 -- What it takes to keep a text, and what it gives.
 use Rattle.std.specs.Prelude.{◌≡◌, ℕ, ◌+◌, ◌-◌, ◌*◌, ◌^◌, ◌<◌, ◌≤◌, true, List, ◌++◌, length}
-use Rattle.monoid.specs.Monoid.{Model}
 use Rattle.rope.specs.Arena.{rooted}
-use Rattle.rope.specs.Memory.{arena_of, Valid, Keeps}
+use Rattle.rope.specs.Memory.{arena_of, Keeps}
 use Rattle.rope.specs.Steps.{leaves}
-use Rattle.rope.specs.declared.record.Root.{Root}
+use Rattle.rope.specs.Arena.{Root}
 use Rattle.rope.specs.declared.store.Store.{Store}
 use Rattle.rope_cut.specs.Parts.{text_in, height_in, edit_need}
 
@@ -16,22 +15,16 @@ need_of_text n = 2 * leaves n
 abbrev pub add_need : ℕ → ℕ → ℕ
 add_need h n = need_of_text n + edit_need h
 
--- there is room for n bytes of added text
-pub record Addable {V R : Type 0} (s : Store V R) (n : ℕ) : Type 0 where
-  pub room : s.added_used + n ≤ length s.added.now
-  pub short : s.added_used + n ≤ 2 ^ 24
-
 -- t is s with the text bs behind the added text, and at most n records more
-pub record Grows {V R : Type 0} (m : Model V R) (s t : Store V R) (bs : List ℕ) (n : ℕ) : Type 0 where
-  pub keeps : Keeps m s t
-  pub added_used : t.added_used ≡ s.added_used + length bs
+pub record Grows {V R : Type 0} {kind : _} (s t : Store V R kind) (bs : List ℕ) (n : ℕ) : Type 0 where
+  pub keeps : Keeps s t
+  pub added_used : t.added.used ≡ s.added.used + length bs
   pub added : (arena_of t).added ≡ (arena_of s).added ++ bs
-  pub cost : t.used ≤ s.used + n
-  pub valid : Valid t
+  pub cost : t.records.used ≤ s.records.used + n
 
 -- r is a new root of the text bs, as low as its leaves allow
-pub record Stands {V R : Type 0} (s : Store V R) (r : Root) (bs : List ℕ) : Type 0 where
-  pub root : rooted s.used r ≡ true
+pub record Stands {V R : Type 0} {kind : _} (s : Store V R kind) (r : Root) (bs : List ℕ) : Type 0 where
+  pub root : rooted s.records.used r ≡ true
   pub text_is : text_in s r ≡ bs
   pub low : 0 < height_in s r → 2 ^ (height_in s r - 1) < leaves (length bs)
   pub six : length bs ≤ 4096 → height_in s r ≤ 6

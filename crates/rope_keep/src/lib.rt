@@ -1,55 +1,62 @@
-//! New texts: one that is brought, one that is a part of the build text, and one behind another.
+//! New texts: one that is brought, one that is a part of the build text, and one behind another. The store and a root are
+//! two arguments, as in `rope_join`.
 #![tactic(auto)]
 
 ghost use Rattle.std.specs.Prelude.{◌≡◌, ◌+◌, ◌^◌, ◌<◌, ◌≤◌, max, true, ◌++◌, length, take, drop};
 ghost use Rattle.rope.specs.Arena.{rooted};
-ghost use Rattle.rope.specs.Memory.{Valid, Free, Takes};
+ghost use Rattle.rope.specs.Memory.{Free, Takes};
 ghost use Rattle.rope_cut.specs.Parts.{Rooted, text_in, height_in};
-ghost use Rattle.rope_keep.specs.Kept.{Addable, Grows, Stands, need_of_text, add_need};
+ghost use Rattle.rope.specs.Steps.{Addable};
+ghost use Rattle.rope_keep.specs.Kept.{Grows, Stands, need_of_text, add_need};
 
 use monoid::Monoid;
-use rope::record::{Root, Source};
+use rope::record::{Piece, Root, Source};
 use rope::store::Store;
 use rope_cut::join_roots;
 
 /// Writes `text` behind the added text, and builds a tree of it.
 pub fn keep<'b, 'a, M: Monoid>(store: &mut Store<'b, 'a, M>, text: &[u8]) -> Root
-    requires valid { Valid store.old }
     requires addable { Addable store.old (length text.now) }
     requires free { Free store.old (need_of_text (length text.now)) }
-    ensures grows { Grows M.Monoid.model store.old store.new text.now (need_of_text (length text.now)) }
+    ensures grows { Grows store.old store.new text.now (need_of_text (length text.now)) }
     ensures stands { Stands store.new result text.now }
 {
-    if text.len() == 0 {
-        return Root::Empty;
+    if text.is_empty() {
+        return None;
     }
     let from = store.append(text);
-    Root::At(store.build(Source::Added, from as u32, text.len() as u32))
+    Some(store.build(Piece {
+        source: Source::Added,
+        start: from as u32,
+        len: text.len() as u32,
+    }))
 }
 
 /// A tree of the `count` bytes from `start` on of the build text.
 pub fn take_part<'b, 'a, M: Monoid>(store: &mut Store<'b, 'a, M>, start: u32, count: u32) -> Root
-    requires valid { Valid store.old }
     requires within { start + count ≤ length store.old.build.now }
     requires free { Free store.old (need_of_text count) }
-    ensures takes { Takes M.Monoid.model store.old store.new (need_of_text count) }
+    ensures takes { Takes store.old store.new (need_of_text count) }
     ensures stands { Stands store.new result (take count (drop start store.old.build.now)) }
 {
     if count == 0 {
-        return Root::Empty;
+        return None;
     }
-    Root::At(store.build(Source::Build, start, count))
+    Some(store.build(Piece {
+        source: Source::Build,
+        start,
+        len: count,
+    }))
 }
 
 /// The text at `root` and then `text`, which is written behind the added text.
 pub fn lengthen<'b, 'a, M: Monoid>(store: &mut Store<'b, 'a, M>, root: Root, text: &[u8]) -> Root
-    requires valid { Valid store.old }
     requires rooted { Rooted store.old root }
     requires addable { Addable store.old (length text.now) }
     requires short { (length text.now ≤ 4096) × (length (text_in store.old root) + length text.now < 2 ^ 32) }
     requires free { Free store.old (add_need (height_in store.old root) (length text.now)) }
-    ensures grows { Grows M.Monoid.model store.old store.new text.now (add_need (height_in store.old root) (length text.now)) }
-    ensures root { rooted store.new.used result ≡ true }
+    ensures grows { Grows store.old store.new text.now (add_need (height_in store.old root) (length text.now)) }
+    ensures root { rooted store.new.records.used result ≡ true }
     ensures text { text_in store.new result ≡ text_in store.old root ++ text.now }
     ensures high { (height_in store.old root ≤ height_in store.new result) × (height_in store.new result ≤ max (height_in store.old root) 6 + 1) }
 {

@@ -1,18 +1,19 @@
 -- The part a to b of a text that is in two pieces, and of one that is a part itself.
-use Rattle.std.proofs.Common.{◌≡◌, ℕ, ◌+◌, ◌-◌, ◌<◌, ◌≤◌, List, [], ◌++◌, length, take, drop, sym, ap, ◌∙◌, append_assoc, append-nil, arith, length-drop, length-take}
+use Rattle.std.proofs.Common.{◌≡◌, ℕ, ◌+◌, ◌-◌, ◌<◌, ◌≤◌, List, [], ◌++◌, length, take, drop, sym, ap, ◌∙◌, append_assoc, append-nil, arith, length-drop}
 use borrow.Rule.Slice.PartMut.{put_mid}
 use lib.Seq.{drop-append-add, take-append-add}
-use Rattle.std.proofs.lemmas.List.{drop-append-le, take-append-le, take_all, drop-drop, drop-take, take-take, drop_at, take_at, take_rest, drop_all}
+use Rattle.std.proofs.lemmas.List.{drop-append-le, take_all, drop-drop, take-take, drop_at, take_at, take_rest, drop_all}
+use Rattle.std.proofs.lemmas.Slice.{between_is}
 use Rattle.std.specs.List.{between}
-use Rattle.rope.specs.Tree.{Tree, leaf, text, size}
-use Rattle.rope.specs.Arena.{Arena, Splits, tree_at}
+use Rattle.monoid.specs.Monoid.{Model}
+use Rattle.rope.specs.Tree.{Tree, text, size}
+use Rattle.rope.specs.Arena.{Arena, Reads, Splits, tree_at, part, source_text}
+use Rattle.rope.specs.declared.record.Record.{Record}
+use Rattle.rope.specs.declared.record.Shape.TheVariants.{Leaf}
+use Rattle.rope.specs.declared.record.Source.{Source}
+use Rattle.rope.proofs.Readings.{leaf_of}
 
-module _ (xs ys : List ℕ) (a b : ℕ) (ordered : a ≤ b) where
-  in_left : b ≤ length xs → between a b (xs ++ ys) ≡ between a b xs
-  in_left h =
-      let inside : b - a ≤ length (drop a xs) = simp length-drop (omega arith) in
-      ap (take (b - a)) (drop-append-le a xs ys (omega arith)) ∙ take-append-le (b - a) (drop a xs) ys inside
-
+module _ (xs ys : List ℕ) (a b : ℕ) where
   in_right : (n : ℕ) → n ≡ length xs → n ≤ a → between a b (xs ++ ys) ≡ between (a - n) (b - n) ys
   in_right n e h =
       let at : a ≡ length xs + (a - n) = omega arith in
@@ -28,31 +29,24 @@ module _ (xs ys : List ℕ) (a b : ℕ) (ordered : a ≤ b) where
       ∙ ap (λ zs. zs ++ take (b - n) ys) (sym whole) ∙ ap (λ i. take (n - a) (drop a xs) ++ take i ys) rest
 
 -- the part of an inner record's text, by its children
-module _ {R : Type 0} {v : Arena R} {i l r : ℕ} (e : Splits v i l r) (a b : ℕ) (ordered : a ≤ b) where
+module _ {R : Type 0} {v : Arena R} {i l r : ℕ} (e : Splits v i l r) (a b n : ℕ) (long : n ≡ size (tree_at v l)) where
   whole : between a b (text (tree_at v l) ++ text (tree_at v r)) ≡ between a b (text (tree_at v i))
   whole = ap (λ (t : Tree). between a b (text t)) (sym e.tree)
 
-  pub piece_left : b ≤ size (tree_at v l) → between a b (text (tree_at v l)) ≡ between a b (text (tree_at v i))
-  piece_left h = sym (in_left (text (tree_at v l)) (text (tree_at v r)) a b ordered h) ∙ whole
+  pub piece_right : n ≤ a → between (a - n) (b - n) (text (tree_at v r)) ≡ between a b (text (tree_at v i))
+  piece_right h = sym (in_right (text (tree_at v l)) (text (tree_at v r)) a b n long h) ∙ whole
 
-  pub piece_right : (n : ℕ) → n ≡ size (tree_at v l) → n ≤ a → between (a - n) (b - n) (text (tree_at v r)) ≡ between a b (text (tree_at v i))
-  piece_right n long h = sym (in_right (text (tree_at v l)) (text (tree_at v r)) a b ordered n long h) ∙ whole
-
-  pub piece_both : (n : ℕ) → n ≡ size (tree_at v l) → a < n → n < b
-      → between a n (text (tree_at v l)) ++ between 0 (b - n) (text (tree_at v r)) ≡ between a b (text (tree_at v i))
-  piece_both n long h k = sym (in_both (text (tree_at v l)) (text (tree_at v r)) a b ordered n long h k) ∙ whole
+  pub piece_both : a < n → n < b → between a n (text (tree_at v l)) ++ between 0 (b - n) (text (tree_at v r)) ≡ between a b (text (tree_at v i))
+  piece_both h k = sym (in_both (text (tree_at v l)) (text (tree_at v r)) a b n long h k) ∙ whole
 
 -- the part of a leaf's text is a part of its source
-pub piece_part : {t : Tree} (xs : List ℕ) (start n a b : ℕ) → t ≡ leaf (take n (drop start xs)) → a ≤ b → b ≤ n → take (b - a) (drop (start + a) xs) ≡ between a b (text t)
-piece_part xs start n a b is h k =
-    let inner : take (b - a) (drop a (take n (drop start xs))) ≡ take (b - a) (drop a (drop start xs)) =
-    sym (drop-take a (b - a) (take n (drop start xs))) ∙ ap (drop a) (take-take (a + (b - a)) n (drop start xs) (omega arith)) ∙ drop-take a (b - a) (drop start xs) in
-    sym (inner ∙ ap (take (b - a)) (drop-drop a start xs)) ∙ ap (λ (t : Tree). between a b (text t)) (sym is)
-
-pub piece_all : (xs : List ℕ) (a b : ℕ) → a ≡ 0 → b ≡ length xs → between a b xs ≡ xs
-piece_all xs a b e f =
-    let g : b - 0 ≡ length xs = omega arith in
-    ap (λ i. take (b - i) (drop i xs)) e ∙ take_all (b - 0) xs (omega arith)
+pub piece_part : {V R : Type 0} {m : Model V R} {v : Arena R} {i start : ℕ} {x : Record R} {source : Source} → Reads m v i x → x.shape ≡ Leaf source start
+    → (a b : ℕ) → b ≤ size (tree_at v i) → part v source (start + a) (b - a) ≡ between a b (text (tree_at v i))
+piece_part {v} {start} {x} {source} d is a b within =
+    let from = drop start (source_text v source) in
+    ap (take (b - a)) (sym (drop-drop a start (source_text v source))) ∙ between_is from a b
+    ∙ ap (drop a) (sym (take-take b x.length from (omega (arith, d.long)))) ∙ sym (between_is (take x.length from) a b)
+    ∙ ap (λ (t : Tree). between a b (text t)) (sym (leaf_of d is).1)
 
 -- a copy of two pieces, the second of them behind the first
 pub copied_both : (us vs out out1 out2 : List ℕ) (k n c : ℕ) → length us ≡ k → k + n ≡ c → k ≤ length out
@@ -65,6 +59,3 @@ copied_both us vs out out1 out2 k n c long sum room e1 e2 =
     let none : drop (length out1 - k) (drop k out1) ≡ [] = drop_all (length out1 - k) (drop k out1) (simp length-drop (omega arith)) in
     ap (λ x. x ++ (out2 ++ drop (length out1 - k) (drop k out1))) front
     ∙ ap (λ x. us ++ (out2 ++ x)) none ∙ ap (λ x. us ++ x) (append-nil out2 ∙ second) ∙ sym (append_assoc us vs (drop c out))
-
-pub length_piece : (xs : List ℕ) (a b : ℕ) → b ≤ length xs → length (between a b xs) ≡ b - a
-length_piece xs a b h = simp (length-take, length-drop) (omega arith)

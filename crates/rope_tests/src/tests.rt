@@ -1,47 +1,39 @@
 ghost use Rattle.std.specs.Prelude.{◌≡◌, true};
 ghost use Rattle.rope.specs.Arena.{rooted};
-ghost use Rattle.rope.specs.Memory.{Valid};
 
 use monoid::Monoid;
 use monoid::fold::fold;
 use monoid::karp_rabin::{KarpRabin, KarpRabinRow};
-use monoid::line_column::{LineColumn, LineColumnRow};
-use monoid::pair::{Pair, PairRow};
+use monoid::line_column::LineColumn;
+use monoid::pair::Pair;
 use rope::record::{Record, Root, Shape, Source};
 use rope::store::Store;
 use rope_cut::{cut, splice};
 use rope_keep::{keep, lengthen, take_part};
-use rope_read::{byte, copy_part, fold_part, len};
+use rope_read::text::Text;
 
 /// Whether `text` is the text at `root`.
 fn holds<'b, 'a, M: Monoid>(store: &Store<'b, 'a, M>, root: Root, text: &[u8]) -> bool
-    requires valid { Valid store.now }
-    requires root { rooted store.now.used root ≡ true }
+    requires { rooted store.now.records.used root ≡ true }
 {
-    let view = store.view();
-    let count = len(view, root);
-    if count as usize != text.len() {
-        return false;
-    }
-    for at in 0..count {
-        if byte(view, root, at) != text[at as usize] {
-            return false;
-        }
-    }
-    true
+    let here = Text::new(store.view(), root);
+    here.len() as usize == text.len()
+        && text
+            .iter()
+            .enumerate()
+            .all(|(at, byte)| here.byte(at as u32) == *byte)
 }
 
 /// Copies the text at `root` to the start of `out`, where it fits.
 fn copies<'b, 'a, M: Monoid>(store: &Store<'b, 'a, M>, root: Root, out: &mut [u8]) -> bool
-    requires valid { Valid store.now }
-    requires root { rooted store.now.used root ≡ true }
+    requires { rooted store.now.records.used root ≡ true }
 {
-    let view = store.view();
-    let count = len(view, root);
+    let here = Text::new(store.view(), root);
+    let count = here.len();
     if count as usize > out.len() {
         return false;
     }
-    copy_part(view, root, 0, count, out);
+    here.copy_part(0, count, out);
     true
 }
 
@@ -53,54 +45,45 @@ fn sums_as<'b, 'a>(
     b: u32,
     text: &[u8],
 ) -> bool
-    requires valid { Valid store.now }
-    requires root { rooted store.now.used root ≡ true }
+    requires { rooted store.now.records.used root ≡ true }
 {
-    let view = store.view();
-    if a > b || b > len(view, root) {
+    let here = Text::new(store.view(), root);
+    if a > b || b > here.len() {
         return false;
     }
-    let told = fold_part(view, root, a, b).to_row();
+    let told = here.fold_part(a, b).to_row();
     let value: Pair<LineColumn, KarpRabin> = fold(text);
     let row = value.to_row();
-    told.first.lines == row.first.lines
-        && told.first.columns == row.first.columns
-        && told.second.h == row.second.h
+    told.first == row.first && told.second.h == row.second.h
 }
 
-const LINE: LineColumnRow = LineColumnRow {
+const LINE: LineColumn = LineColumn {
     lines: 0,
     columns: 0,
 };
 
-const BLANK: Record<LineColumnRow> = Record {
-    shape: Shape::Leaf {
-        source: Source::Build,
-        start: 0,
-    },
-    length: 0,
-    height: 0,
-    row: LINE,
+const MARKED: Pair<LineColumn, KarpRabinRow> = Pair {
+    first: LINE,
+    second: KarpRabinRow { h: 0, w: 1, v: 1 },
 };
 
-const MARKED: Record<PairRow<LineColumnRow, KarpRabinRow>> = Record {
-    shape: Shape::Leaf {
-        source: Source::Build,
-        start: 0,
-    },
-    length: 0,
-    height: 0,
-    row: PairRow {
-        first: LINE,
-        second: KarpRabinRow { h: 0, w: 1, v: 1 },
-    },
-};
+fn blank<R>(row: R) -> Record<R> {
+    Record {
+        shape: Shape::Leaf {
+            source: Source::Build,
+            start: 0,
+        },
+        length: 0,
+        height: 0,
+        row,
+    }
+}
 
 #[test]
 fn adds_and_cuts(rt: HostRuntime) {
     let build = [0u8; 1];
     let mut added = [0u8; 16];
-    let mut records = [BLANK; 600];
+    let mut records = [blank(LINE); 600];
     let mut store: Store<LineColumn> = Store::new(&build, &mut added, &mut records);
     let short = keep(&mut store, b"one\n");
     let long = lengthen(&mut store, short, b"two");
@@ -120,7 +103,7 @@ fn splices_a_text_into_itself(rt: HostRuntime) {
     build[320] = 3;
     build[639] = 4;
     let mut added = [0u8; 1];
-    let mut records = [MARKED; 300];
+    let mut records = [blank(MARKED); 300];
     let mut store: Store<Pair<LineColumn, KarpRabin>> = Store::new(
         &build,
         &mut added,

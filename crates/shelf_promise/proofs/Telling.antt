@@ -1,25 +1,19 @@
 -- What is told of documents and parts of a reached shelf.
 use Rattle.std.proofs.Common.{◌≡◌, ℕ, zero, suc, ◌<◌, true, false, List, [], ◌∷◌, length, get_or, Some, None, Ok, Err, Result, sym, refl, ap, ◌∙◌, subst, arith}
-use Rattle.std.specs.List.{between}
 use Rattle.std.proofs.lemmas.List.{get_or-map, length-map}
 use Rattle.std.proofs.lemmas.Bool.Decides.{nat_tests}
 use Rattle.monoid.specs.Monoid.{Model, fold_of, all_bytes}
 use Rattle.monoid.specs.LineColumnValues.{line_column_model}
 use Rattle.monoid.specs.declared.line_column.LineColumn.{LineColumn}
-use Rattle.monoid.specs.declared.line_column.LineColumnRow.{LineColumnRow}
 use Rattle.monoid.specs.declared.pair.Pair.{Pair}
-use Rattle.monoid.specs.declared.pair.PairRow.{PairRow}
 use Rattle.monoid.proofs.Pairs.{fold_pair}
 use Rattle.zemor.specs.Values.{sl2}
-use Rattle.zemor.specs.declared.matrix.Entries.{Entries}
 use Rattle.zemor.specs.declared.matrix.Sl2.{Sl2}
 use Rattle.zemor.proofs.Texts.{slips_show}
-use Rattle.rope.specs.Arena.{Sound, Summed, text_of}
-use Rattle.rope.specs.declared.record.Root.TheVariants.{Empty}
-use Rattle.rope.proofs.Readings.{sound_of}
+use Rattle.rope.specs.Arena.{Sound, text_of}
 use Rattle.shelf_view.specs.Documents.{all_fine}
 use Rattle.shelf_view.specs.Marked.{marked, fingerprint}
-use Rattle.shelf_view.specs.Questions.{of_document, of_part}
+use Rattle.shelf_view.specs.Questions.{of_document}
 use Rattle.shelf_view.specs.Refusals.{Answers}
 use Rattle.shelf_view.specs.State.{State, Shelved, state_of, text_at, unknown, kept_values}
 use Rattle.shelf_view.specs.declared.refusal.Refusal.{Refusal}
@@ -33,41 +27,29 @@ use Rattle.text_shelf.specs.declared.call.Answer.{Answer}
 use Rattle.text_shelf.specs.declared.shelf.Shelf.{Shelf}
 use Rattle.shelf_promise.specs.Runs.{after, nothing}
 use Rattle.shelf_promise.specs.Replays.{After}
-use Rattle.shelf_promise.specs.Promises.{DocumentFolds, PartFolds, SlipsTold, WindowTold}
+use Rattle.shelf_promise.specs.Promises.{DocumentFolds, SlipsTold}
 
 -- what the view ensures of a document's summary
 abbrev pub DocumentTold : {V R : Type 0} → Model V R → ℕ → Result V Refusal → Shelved R → Type 0
-DocumentTold m d r s = Answers (of_document (state_of s) d) (λ v. (v ≡ get_or (kept_values m s) d m.empty) × (Summed m s.arena → v ≡ fold_of m (text_at (state_of s) d))) r
+DocumentTold m d r s = Answers (of_document (state_of s) d) (λ v. (v ≡ get_or (kept_values m s) d m.empty) × (v ≡ fold_of m (text_at (state_of s) d))) r
 
-pub document_folds : {V R : Type 0} (m : Model V R) (d : ℕ) (r : Result V Refusal) (s : Shelved R) → Summed m s.arena → DocumentTold m d r s → DocumentFolds m d r (state_of s)
-document_folds m d (Ok v) s w h = (h.0, h.1.1 w)
-document_folds m d (Err e) s w h = h
-
--- and of a part's
-abbrev pub PartTold : {V R : Type 0} → Model V R → ℕ → ℕ → ℕ → Result V Refusal → Shelved R → Type 0
-PartTold m d a b r s = Answers (of_part (state_of s) d a b) (λ v. Summed m s.arena → v ≡ fold_of m (between a b (text_at (state_of s) d))) r
-
-pub part_folds : {V R : Type 0} (m : Model V R) (d a b : ℕ) (r : Result V Refusal) (s : Shelved R) → Summed m s.arena → PartTold m d a b r s → PartFolds m d a b r (state_of s)
-part_folds m d a b (Ok v) s w h = (h.0, h.1 w)
-part_folds m d a b (Err e) s w h = h
-
-pub window_told : (d a b : ℕ) (digits old new : List ℕ) (r : Result ℕ Refusal) (x y : Shelved (PairRow Entries LineColumnRow)) → x ≡ y → Summed marked y.arena
-    → (Summed marked x.arena → WindowTold d a b digits old new r (state_of x)) → WindowTold d a b digits old new r (state_of y)
-window_told d a b digits old new r x y e w h = subst (λ z. Summed marked z.arena → WindowTold d a b digits old new r (state_of z)) e h w
+pub document_folds : {V R : Type 0} (m : Model V R) (d : ℕ) (r : Result V Refusal) (s : Shelved R) → DocumentTold m d r s → DocumentFolds m d r (state_of s)
+document_folds m d (Ok v) s h = (h.0, h.1.1)
+document_folds m d (Err e) s h = h
 
 -- every byte of a document is below 256
 pub document_bytes : {R : Type 0} (s : Shelved R) → Sound s.arena → all_fine s.arena s.roots ≡ true → (d : ℕ) → unknown (state_of s) d ≡ false → all_bytes (text_at (state_of s) d) ≡ true
 document_bytes s w all zero h = refl
 document_bytes s w all (suc i) h =
     let below : i < length s.roots = grind (arith, nat_tests, length-map s.roots (text_of s.arena)) in
-    ap all_bytes (get_or-map (text_of s.arena) s.roots i Empty [] below)
-    ∙ root_bytes s.arena (get_or s.roots i Empty) w (fine_at s.arena s.roots i Empty all below)
+    ap all_bytes (get_or-map (text_of s.arena) s.roots i None [] below)
+    ∙ root_bytes s.arena (get_or s.roots i None) w (fine_at s.arena s.roots i None all below)
 
-pub reached_bytes : {V R : Type 0} {kind : _} (m : Model V R) (b : Brought) (calls : List Call) (answers : List Answer) (s : Shelf V R kind) (d : ℕ) → After m b calls answers s
+pub reached_bytes : {V R : Type 0} {kind : _} (m : Model V R) (b : Brought) (calls : List Call) (answers : List (Result Answer Refusal)) (s : Shelf V R kind) (d : ℕ) → After m b calls answers s
     → of_document (after b.build nothing calls answers) d ≡ None → all_bytes (text_at (after b.build nothing calls answers) d) ≡ true
 reached_bytes m b calls answers s d w h =
     subst (λ t. unknown t d ≡ false → all_bytes (text_at t d) ≡ true) w.state
-    (document_bytes (shelved (parts s)) (sound_of s.bounded.1 s.shaped) s.documents d) (passed (unknown (after b.build nothing calls answers) d) NoDocument [] h).0
+    (document_bytes (shelved (parts s)) s.store.sound s.documents d) (passed (unknown (after b.build nothing calls answers) d) NoDocument [] h).0
 
 module _ (s t : State) (d e : ℕ) where
   pub refuses_one : (x : Refusal) → of_document s d ≡ Some x → SlipsTold d e (Err x) s t

@@ -19,7 +19,7 @@ use Rattle.shelf_promise.specs.Replays.{After}
 
 -- P holds of what the list of strings makes of any list of calls that the shelf was reached by
 abbrev pub Reached : {V R : Type 0} {kind : _} → Model V R → Shelf V R kind → (State → Type 0) → Type 0
-Reached m shelf P = (b : Brought) (calls : List Call) (answers : List Answer) → After m b calls answers shelf → P (after b.build nothing calls answers)
+Reached m shelf P = (b : Brought) (calls : List Call) (answers : List (Result Answer Refusal)) → After m b calls answers shelf → P (after b.build nothing calls answers)
 
 -- the summary told of a document is the fold of its bytes
 abbrev pub DocumentFolds : {V R : Type 0} → Model V R → ℕ → Result V Refusal → State → Type 0

@@ -1,8 +1,7 @@
 //! Every call's refusals at their edges.
-use crate::calls::{Row, first_wrong};
-use crate::memory::BLANK;
+use crate::calls::{Row, add, cut, first_wrong, splice, take};
+use crate::memory::{LINE, blank};
 use monoid::line_column::LineColumn;
-use rope::record::Root;
 use shelf_view::draft_id::DraftId;
 use shelf_view::refusal::Refusal;
 use std::test::Fail;
@@ -12,474 +11,239 @@ use text_shelf::shelf::Shelf;
 const BUILD: &[u8; 10] = b"0123456789";
 
 // The longest text that may be put, and one byte more.
-const LONGEST: [u8; 4096] = [b'x'; 4096];
+static LONGEST: [u8; 4096] = [b'x'; 4096];
 
-const LONGER: [u8; 4097] = [b'x'; 4097];
+static LONGER: [u8; 4097] = [b'x'; 4097];
 
 // Calls on a fresh shelf with so much memory and mark 7.
-struct Case {
+#[derive(Drop)]
+struct Case<'c> {
     records: usize,
     added: usize,
     places: usize,
-    calls: &'static [Row],
+    calls: &'c [Row],
 }
 
-// The case and the row of the first call that is answered otherwise.
-fn wrong(cases: &[Case]) -> Option<(usize, usize)> {
-    for i in 0..cases.len() {
-        let case = &cases[i];
-        let mut records = [BLANK; 200];
-        let mut added = [0u8; 4096];
-        let mut places = [Root::Empty; 8];
-        let mut shelf: Shelf<LineColumn> = Shelf::new(
-            BUILD,
-            &mut added[0..case.added.min(4096)],
-            &mut records[0..case.records.min(200)],
-            &mut places[0..case.places.min(8)],
-            7,
-        );
-        if let Some(row) = first_wrong(&mut shelf, case.calls) {
-            return Some((i, row));
-        }
-    }
-    None
+// The row of the first call that is answered otherwise.
+fn wrong_row<'c>(case: &Case<'c>) -> Option<usize> {
+    let mut records = [blank(LINE); 200];
+    let mut added = [0u8; 4096];
+    let mut places = [None; 8];
+    let mut shelf: Shelf<LineColumn> = Shelf::new(
+        BUILD,
+        &mut added[0..case.added.min(4096)],
+        &mut records[0..case.records.min(200)],
+        &mut places[0..case.places.min(8)],
+        7,
+    );
+    first_wrong(&mut shelf, case.calls)
+}
+
+// The case and the row of the first such call.
+fn wrong<'c>(cases: &[Case<'c>]) -> Option<(usize, usize)> {
+    cases
+        .iter()
+        .enumerate()
+        .find_map(|(i, case)| Some((i, wrong_row(case)?)))
 }
 
 // Long texts; memory for text and records and places, each exactly used up; 7 before 11 before 12 before 13.
-const PUTS: [Case; 6] = [
-    Case {
-        records: 128,
-        added: 4096,
-        places: 1,
-        calls: &[
-            (Call::Put(&LONGER), 7),
-            (Call::Put(&LONGEST), 0),
-            (Call::Put(b"x"), 11),
-            (Call::Take { from: 0, to: 1 }, 12),
-            (Call::Take { from: 0, to: 0 }, 13),
-            (Call::Put(b""), 13),
-        ],
-    },
-    Case {
-        records: 127,
-        added: 4096,
-        places: 1,
-        calls: &[(Call::Put(&LONGEST), 12)],
-    },
-    Case {
-        records: 1,
-        added: 1,
-        places: 1,
-        calls: &[(Call::Put(b"x"), 12), (Call::Put(b""), 0)],
-    },
-    Case {
-        records: 2,
-        added: 1,
-        places: 1,
-        calls: &[(Call::Put(b"x"), 0)],
-    },
-    Case {
-        records: 2,
-        added: 1,
-        places: 0,
-        calls: &[(Call::Put(b"xx"), 11), (Call::Put(b"x"), 13)],
-    },
-    Case {
-        records: 2,
-        added: 0,
-        places: 8,
-        calls: &[
-            (Call::Take { from: 11, to: 11 }, 6),
-            (Call::Take { from: 4, to: 3 }, 6),
-            (Call::Take { from: 0, to: 11 }, 6),
-            (
-                Call::Take {
-                    from: usize::MAX,
-                    to: usize::MAX,
-                },
-                6,
-            ),
-            (Call::Take { from: 10, to: 10 }, 0),
-            (Call::Take { from: 0, to: 10 }, 0),
-            (Call::Take { from: 0, to: 1 }, 12),
-        ],
-    },
-];
-
 #[test]
 fn puts_are_refused(rt: HostRuntime) {
-    assert_eq!(rt; wrong(&PUTS), None);
+    let cases = [
+        Case {
+            records: 128,
+            added: 4096,
+            places: 1,
+            calls: &[
+                (Call::Put(&LONGER), Err(7)),
+                (Call::Put(&LONGEST), Ok(())),
+                (Call::Put(b"x"), Err(11)),
+                (take(0, 1), Err(12)),
+                (take(0, 0), Err(13)),
+                (Call::Put(b""), Err(13)),
+            ],
+        },
+        Case {
+            records: 127,
+            added: 4096,
+            places: 1,
+            calls: &[(Call::Put(&LONGEST), Err(12))],
+        },
+        Case {
+            records: 1,
+            added: 1,
+            places: 1,
+            calls: &[(Call::Put(b"x"), Err(12)), (Call::Put(b""), Ok(()))],
+        },
+        Case {
+            records: 2,
+            added: 1,
+            places: 1,
+            calls: &[(Call::Put(b"x"), Ok(()))],
+        },
+        Case {
+            records: 2,
+            added: 1,
+            places: 0,
+            calls: &[(Call::Put(b"xx"), Err(11)), (Call::Put(b"x"), Err(13))],
+        },
+        Case {
+            records: 2,
+            added: 0,
+            places: 8,
+            calls: &[
+                (take(11, 11), Err(6)),
+                (take(4, 3), Err(6)),
+                (take(0, 11), Err(6)),
+                (take(usize::MAX, usize::MAX), Err(6)),
+                (take(10, 10), Ok(())),
+                (take(0, 10), Ok(())),
+                (take(0, 1), Err(12)),
+            ],
+        },
+    ];
+    assert_eq!(rt; wrong(&cases), None);
 }
 
 // Unknown documents, unlawful parts, and the need of an edit of the empty text.
-const EDITS: [Case; 3] = [
-    Case {
-        records: 200,
-        added: 0,
-        places: 4,
-        calls: &[
-            (
-                Call::Cut {
-                    document: 1,
-                    from: 4,
-                    to: 3,
-                },
-                5,
-            ),
-            (
-                Call::Splice {
-                    document: 0,
-                    from: 4,
-                    to: 3,
-                    other: 1,
-                },
-                5,
-            ),
-            (
-                Call::Splice {
-                    document: 1,
-                    from: 0,
-                    to: 0,
-                    other: 0,
-                },
-                5,
-            ),
-            (
-                Call::Cut {
-                    document: 0,
-                    from: 0,
-                    to: 1,
-                },
-                6,
-            ),
-            (Call::Take { from: 0, to: 10 }, 0),
-            (
-                Call::Cut {
-                    document: 1,
-                    from: 4,
-                    to: 3,
-                },
-                6,
-            ),
-            (
-                Call::Cut {
-                    document: 1,
-                    from: 0,
-                    to: 11,
-                },
-                6,
-            ),
-            (
-                Call::Splice {
-                    document: 1,
-                    from: 0,
-                    to: 11,
-                    other: 1,
-                },
-                6,
-            ),
-            (
-                Call::Splice {
-                    document: 1,
-                    from: 11,
-                    to: 10,
-                    other: 1,
-                },
-                6,
-            ),
-            (
-                Call::Cut {
-                    document: 1,
-                    from: 10,
-                    to: 10,
-                },
-                0,
-            ),
-            (
-                Call::Splice {
-                    document: 1,
-                    from: 0,
-                    to: 10,
-                    other: 1,
-                },
-                0,
-            ),
-            (
-                Call::Cut {
-                    document: 4,
-                    from: 0,
-                    to: 0,
-                },
-                5,
-            ),
-            (
-                Call::Cut {
-                    document: 3,
-                    from: 0,
-                    to: 10,
-                },
-                0,
-            ),
-            (
-                Call::Cut {
-                    document: 1,
-                    from: 0,
-                    to: 0,
-                },
-                13,
-            ),
-        ],
-    },
-    Case {
-        records: 31,
-        added: 0,
-        places: 1,
-        calls: &[
-            (
-                Call::Cut {
-                    document: 0,
-                    from: 0,
-                    to: 0,
-                },
-                12,
-            ),
-            (
-                Call::Splice {
-                    document: 0,
-                    from: 0,
-                    to: 0,
-                    other: 0,
-                },
-                12,
-            ),
-        ],
-    },
-    Case {
-        records: 32,
-        added: 0,
-        places: 1,
-        calls: &[
-            (
-                Call::Cut {
-                    document: 0,
-                    from: 0,
-                    to: 0,
-                },
-                0,
-            ),
-            (
-                Call::Splice {
-                    document: 0,
-                    from: 0,
-                    to: 0,
-                    other: 0,
-                },
-                13,
-            ),
-        ],
-    },
-];
-
 #[test]
 fn edits_are_refused(rt: HostRuntime) {
-    assert_eq!(rt; wrong(&EDITS), None);
+    let cases = [
+        Case {
+            records: 200,
+            added: 0,
+            places: 4,
+            calls: &[
+                (cut(1, 4, 3), Err(5)),
+                (splice(0, 4, 3, 1), Err(5)),
+                (splice(1, 0, 0, 0), Err(5)),
+                (cut(0, 0, 1), Err(6)),
+                (take(0, 10), Ok(())),
+                (cut(1, 4, 3), Err(6)),
+                (cut(1, 0, 11), Err(6)),
+                (splice(1, 0, 11, 1), Err(6)),
+                (splice(1, 11, 10, 1), Err(6)),
+                (cut(1, 10, 10), Ok(())),
+                (splice(1, 0, 10, 1), Ok(())),
+                (cut(4, 0, 0), Err(5)),
+                (cut(3, 0, 10), Ok(())),
+                (cut(1, 0, 0), Err(13)),
+            ],
+        },
+        Case {
+            records: 31,
+            added: 0,
+            places: 1,
+            calls: &[(cut(0, 0, 0), Err(12)), (splice(0, 0, 0, 0), Err(12))],
+        },
+        Case {
+            records: 32,
+            added: 0,
+            places: 1,
+            calls: &[(cut(0, 0, 0), Ok(())), (splice(0, 0, 0, 0), Err(13))],
+        },
+    ];
+    assert_eq!(rt; wrong(&cases), None);
 }
+
+// The shelf's drafts, by their count.
+fn own(count: u32) -> DraftId {
+    DraftId { mark: 7, count }
+}
+
+const STRANGE: DraftId = DraftId { mark: 8, count: 1 };
 
 // Strange drafts, and the need of an add. A draft that is given up does not return its added bytes.
-const DRAFTS: [Case; 5] = [
-    Case {
-        records: 200,
-        added: 3,
-        places: 1,
-        calls: &[
-            (
-                Call::Add {
-                    draft: DraftId { mark: 7, count: 0 },
-                    text: b"",
-                },
-                3,
-            ),
-            (Call::GiveUp(DraftId { mark: 7, count: 0 }), 3),
-            (Call::Open, 0),
-            (Call::Open, 4),
-            (
-                Call::Add {
-                    draft: DraftId { mark: 8, count: 1 },
-                    text: &LONGER,
-                },
-                3,
-            ),
-            (
-                Call::Add {
-                    draft: DraftId { mark: 7, count: 2 },
-                    text: b"x",
-                },
-                3,
-            ),
-            (Call::Seal(DraftId { mark: 8, count: 1 }), 3),
-            (Call::GiveUp(DraftId { mark: 7, count: 0 }), 3),
-            (
-                Call::Add {
-                    draft: DraftId { mark: 7, count: 1 },
-                    text: &LONGER,
-                },
-                7,
-            ),
-            (
-                Call::Add {
-                    draft: DraftId { mark: 7, count: 1 },
-                    text: b"xxxx",
-                },
-                11,
-            ),
-            (
-                Call::Add {
-                    draft: DraftId { mark: 7, count: 1 },
-                    text: b"xxx",
-                },
-                0,
-            ),
-            (Call::Seal(DraftId { mark: 7, count: 1 }), 0),
-            (Call::Seal(DraftId { mark: 7, count: 1 }), 3),
-            (Call::Open, 0),
-            (Call::GiveUp(DraftId { mark: 7, count: 1 }), 3),
-            (Call::Seal(DraftId { mark: 7, count: 2 }), 13),
-            (Call::GiveUp(DraftId { mark: 7, count: 2 }), 0),
-        ],
-    },
-    Case {
-        records: 33,
-        added: 1,
-        places: 1,
-        calls: &[
-            (Call::Open, 0),
-            (
-                Call::Add {
-                    draft: DraftId { mark: 7, count: 1 },
-                    text: b"x",
-                },
-                12,
-            ),
-        ],
-    },
-    Case {
-        records: 34,
-        added: 1,
-        places: 1,
-        calls: &[
-            (Call::Open, 0),
-            (
-                Call::Add {
-                    draft: DraftId { mark: 7, count: 1 },
-                    text: b"x",
-                },
-                0,
-            ),
-        ],
-    },
-    Case {
-        records: 31,
-        added: 1,
-        places: 1,
-        calls: &[
-            (Call::Open, 0),
-            (
-                Call::Add {
-                    draft: DraftId { mark: 7, count: 1 },
-                    text: b"",
-                },
-                12,
-            ),
-        ],
-    },
-    Case {
-        records: 200,
-        added: 4,
-        places: 8,
-        calls: &[
-            (Call::Open, 0),
-            (
-                Call::Add {
-                    draft: DraftId { mark: 7, count: 1 },
-                    text: b"abc",
-                },
-                0,
-            ),
-            (Call::GiveUp(DraftId { mark: 7, count: 1 }), 0),
-            (Call::Put(b"de"), 11),
-            (Call::Put(b"d"), 0),
-        ],
-    },
-];
-
 #[test]
 fn drafts_are_refused(rt: HostRuntime) {
-    assert_eq!(rt; wrong(&DRAFTS), None);
+    let cases = [
+        Case {
+            records: 200,
+            added: 3,
+            places: 1,
+            calls: &[
+                (add(own(0), b""), Err(3)),
+                (Call::GiveUp(own(0)), Err(3)),
+                (Call::Open, Ok(())),
+                (Call::Open, Err(4)),
+                (add(STRANGE, &LONGER), Err(3)),
+                (add(own(2), b"x"), Err(3)),
+                (Call::Seal(STRANGE), Err(3)),
+                (Call::GiveUp(own(0)), Err(3)),
+                (add(own(1), &LONGER), Err(7)),
+                (add(own(1), b"xxxx"), Err(11)),
+                (add(own(1), b"xxx"), Ok(())),
+                (Call::Seal(own(1)), Ok(())),
+                (Call::Seal(own(1)), Err(3)),
+                (Call::Open, Ok(())),
+                (Call::GiveUp(own(1)), Err(3)),
+                (Call::Seal(own(2)), Err(13)),
+                (Call::GiveUp(own(2)), Ok(())),
+            ],
+        },
+        Case {
+            records: 33,
+            added: 1,
+            places: 1,
+            calls: &[(Call::Open, Ok(())), (add(own(1), b"x"), Err(12))],
+        },
+        Case {
+            records: 34,
+            added: 1,
+            places: 1,
+            calls: &[(Call::Open, Ok(())), (add(own(1), b"x"), Ok(()))],
+        },
+        Case {
+            records: 31,
+            added: 1,
+            places: 1,
+            calls: &[(Call::Open, Ok(())), (add(own(1), b""), Err(12))],
+        },
+        Case {
+            records: 200,
+            added: 4,
+            places: 8,
+            calls: &[
+                (Call::Open, Ok(())),
+                (add(own(1), b"abc"), Ok(())),
+                (Call::GiveUp(own(1)), Ok(())),
+                (Call::Put(b"de"), Err(11)),
+                (Call::Put(b"d"), Ok(())),
+            ],
+        },
+    ];
+    assert_eq!(rt; wrong(&cases), None);
 }
-
-// The longest document, and the most records that are used.
-const MOST: [Row; 8] = [
-    (
-        Call::Take {
-            from: 0,
-            to: 1048577,
-        },
-        7,
-    ),
-    (
-        Call::Take {
-            from: 0,
-            to: 1048576,
-        },
-        0,
-    ),
-    (
-        Call::Take {
-            from: 1,
-            to: 1048577,
-        },
-        0,
-    ),
-    (Call::Take { from: 0, to: 1 }, 0),
-    (Call::Take { from: 0, to: 1 }, 12),
-    (
-        Call::Splice {
-            document: 1,
-            from: 0,
-            to: 0,
-            other: 3,
-        },
-        7,
-    ),
-    (
-        Call::Splice {
-            document: 1,
-            from: 0,
-            to: 1,
-            other: 3,
-        },
-        12,
-    ),
-    (Call::Put(b""), 0),
-];
 
 // A number that the proof does not compute with.
 fn plain(n: usize) -> usize {
     n
 }
 
-// More is brought than is used: document 4 is the last of `MOST`, and there are 4,095 places.
+// The longest document, and the most records and places that are used, of more that are brought.
 #[test]
 fn most_is_used(rt: HostRuntime) -> Result<(), Fail> {
     let heap = rt.alloc();
     let build = vec![in heap; b'x'; plain(1048577)]?;
-    let mut records = vec![in heap; BLANK; plain(65540)]?;
-    let mut places = vec![in heap; Root::Empty; plain(4096)]?;
+    let mut records = vec![in heap; blank(LINE); plain(65540)]?;
+    let mut places = vec![in heap; None; plain(4096)]?;
     let mut shelf: Shelf<LineColumn> = Shelf::new(&build, &mut [], &mut records, &mut places, 7);
-    assert_eq!(rt; first_wrong(&mut shelf, &MOST), None);
+    let most = [
+        (take(0, 1048577), Err(7)),
+        (take(0, 1048576), Ok(())),
+        (take(1, 1048577), Ok(())),
+        (take(0, 1), Ok(())),
+        (take(0, 1), Err(12)),
+        (splice(1, 0, 0, 3), Err(7)),
+        (splice(1, 0, 1, 3), Err(12)),
+        (Call::Put(b""), Ok(())),
+    ];
+    assert_eq!(rt; first_wrong(&mut shelf, &most), None);
+    // That was document 4, and there are 4,095 places.
     for _ in 4..4095 {
         shelf.put(b"")?;
     }
-    assert_eq!(rt; first_wrong(&mut shelf, &[(Call::Put(b""), 13)]), None);
+    assert_eq!(rt; first_wrong(&mut shelf, &[(Call::Put(b""), Err(13))]), None);
     Ok(())
 }

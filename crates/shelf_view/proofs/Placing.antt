@@ -1,12 +1,11 @@
 -- The roots of documents and of the draft.
-use Rattle.std.proofs.Common.{◌≡◌, ℕ, zero, suc, ◌<◌, ◌≤◌, true, false, leb, List, [], ◌∷◌, length, get_or, Some, Ok, refl, arith}
+use Rattle.std.proofs.Common.{◌≡◌, ℕ, zero, suc, ◌<◌, ◌≤◌, true, false, leb, ltb, List, ◌∷◌, [], length, get_or, Some, None, Option, Bor, sym, ap, ◌∙◌, arith}
+use Rattle.std.specs.Option.{IfSome, is_some, ok_or, option_copied}
 use Rattle.std.proofs.lemmas.List.{get_or-map, length-map}
 use Rattle.std.proofs.lemmas.Bool.{and_parts, leb-true}
 use Rattle.std.proofs.lemmas.Bool.Decides.{nat_tests}
 use Rattle.monoid.specs.Monoid.{Model}
-use Rattle.rope.specs.Arena.{Arena, text_of, height_of, kept_of, rooted}
-use Rattle.rope.specs.declared.record.Root.{Root}
-use Rattle.rope.specs.declared.record.Root.TheVariants.{Empty}
+use Rattle.rope.specs.Arena.{Arena, Root, text_of, height_of, kept_of, rooted}
 use Rattle.shelf_view.specs.Documents.{fine, all_fine, most}
 use Rattle.shelf_view.specs.State.{Shelved, state_of, unknown}
 use Rattle.shelf_view.specs.Refusals.{Answers}
@@ -27,26 +26,23 @@ pub short_of : {R : Type 0} (a : Arena R) (p : Root) → fine a p ≡ true → l
 short_of a p h = leb-true _ _ (and_parts (rooted (length a.records) p) (leb (length (text_of a p)) most) h).1
 
 module _ {V R : Type 0} (m : Model V R) (s : Shelved R) where
-  known : (d : ℕ) → d ≤ length s.roots → unknown (state_of s) d ≡ false
-  known d h = let l = length-map s.roots (text_of s.arena) in grind (arith, nat_tests)
-
-  not_known : (d : ℕ) → length s.roots < d → unknown (state_of s) d ≡ true
-  not_known d h = let l = length-map s.roots (text_of s.arena) in grind (arith, nat_tests)
-
-  pub placed_none : (d : ℕ) → length s.roots < d → of_document (state_of s) d ≡ Some NoDocument
-  placed_none d h = first_is NoDocument [] (not_known d h)
-
-  pub placed_empty : (d : ℕ) → d ≡ 0 → Answers (of_document (state_of s) d) (Lies m s d) (Ok Empty)
-  placed_empty d e = rw e (first_not NoDocument [] (known 0 (omega arith)), record { fine_root = refl; text_is = refl; high = refl; kept = refl })
-
-  lies_at : (i : ℕ) → i < length s.roots → all_fine s.arena s.roots ≡ true → Lies m s (suc i) (get_or s.roots i Empty)
-  lies_at i h all = record {
-    fine_root = fine_at s.arena s.roots i Empty all h;
-    text_is = get_or-map (text_of s.arena) s.roots i Empty [] h;
-    high = get_or-map (height_of s.arena) s.roots i Empty 0 h;
-    kept = get_or-map (kept_of m s.arena) s.roots i Empty m.empty h;
+  lies_at : (i : ℕ) (p : Root) → i < length s.roots → p ≡ get_or s.roots i p → all_fine s.arena s.roots ≡ true → Lies m s (suc i) p
+  lies_at i p h is all = record {
+    fine_root = ap (fine s.arena) is ∙ fine_at s.arena s.roots i p all h;
+    text_is = get_or-map (text_of s.arena) s.roots i p [] h ∙ ap (text_of s.arena) (sym is);
+    high = get_or-map (height_of s.arena) s.roots i p 0 h ∙ ap (height_of s.arena) (sym is);
+    kept = get_or-map (kept_of m s.arena) s.roots i p m.empty h ∙ ap (kept_of m s.arena) (sym is);
   }
 
-  pub placed_at : (d i : ℕ) → d ≡ suc i → i < length s.roots → all_fine s.arena s.roots ≡ true
-      → Answers (of_document (state_of s) d) (Lies m s d) (Ok (get_or s.roots i Empty))
-  placed_at d i e h all = (first_not NoDocument [] (known d (omega arith)), rw e (lies_at i h all))
+  -- document d, where the root before it is looked up among those from number 1 on
+  pub placed : (d i : ℕ) (got : Option (Bor Root)) → d ≡ suc i → is_some got ≡ ltb i (length s.roots) → IfSome got (λ p. p.now ≡ get_or s.roots i p.now)
+      → all_fine s.arena s.roots ≡ true → Answers (of_document (state_of s) d) (Lies m s d) (ok_or (option_copied got) NoDocument)
+  placed d i None e there is all =
+      let many = length-map s.roots (text_of s.arena) in
+      let none : unknown (state_of s) d ≡ true = grind (arith, nat_tests) in
+      first_is NoDocument [] none
+  placed d i (Some p) e there is all =
+      let many = length-map s.roots (text_of s.arena) in
+      let below : i < length s.roots = grind (arith, nat_tests) in
+      let known : unknown (state_of s) d ≡ false = grind (arith, nat_tests) in
+      (first_not NoDocument [] known, rw e (lies_at i p.now below is all))

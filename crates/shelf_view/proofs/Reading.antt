@@ -1,17 +1,14 @@
 -- Reading a window back.
-use Rattle.std.proofs.Common.{◌≡◌, ℕ, ◌<◌, ◌≤◌, ltb, List, [], ◌∷◌, ◌++◌, length, take, drop, Some, None, Ok, Err, sym, refl, ap, ◌∙◌, arith}
-use native.Mathlib.Nat.{sub-zero}
+use Rattle.std.proofs.Common.{◌≡◌, ℕ, ◌<◌, ◌≤◌, List, ◌++◌, length, take, drop, Some, None, Ok, Err, Option, Result, sym, refl, ap, ◌∙◌, arith}
 use Rattle.std.specs.List.{between}
-use Rattle.std.proofs.lemmas.Slice.{between_to_end}
+use Rattle.std.specs.Option.{ok_or}
+use Rattle.std.proofs.lemmas.Slice.{between_from_start, between_to_end}
 use Rattle.std.proofs.lemmas.Bool.Decides.{nat_tests}
+use Rattle.std.proofs.lemmas.Grind.{common_steps}
 use Rattle.monoid.specs.Monoid.{fold_of}
-use Rattle.monoid.specs.LineColumnValues.{line_column_model}
 use Rattle.monoid.specs.declared.line_column.LineColumn.{LineColumn}
-use Rattle.monoid.specs.declared.line_column.LineColumnRow.{LineColumnRow}
 use Rattle.monoid.specs.declared.pair.Pair.{Pair}
-use Rattle.monoid.specs.declared.pair.PairRow.{PairRow}
 use Rattle.monoid.proofs.Folds.{fold_append}
-use Rattle.monoid.proofs.Pairs.{fold_pair}
 use Rattle.zemor.specs.Values.{sl2}
 use Rattle.zemor.specs.Windows as window
 use Rattle.zemor.specs.Windows.{ReadBack, window_text}
@@ -22,15 +19,15 @@ use Rattle.zemor.specs.declared.window.Window.{Window}
 use Rattle.zemor.specs.Laws.{same, lawful}
 use Rattle.zemor.proofs.Writing.{hex_back}
 use Rattle.rope.specs.Arena.{text_of}
-use Rattle.shelf_view.specs.State.{Shelved, state_of, text_at, unknown, bad_part}
+use Rattle.shelf_view.specs.State.{Shelved, state_of, text_at}
 use Rattle.shelf_view.specs.Questions.{of_part, of_copy}
 use Rattle.shelf_view.specs.Places.{Span}
 use Rattle.shelf_view.specs.Marked.{marked, fingerprint, written, Gives, earlier, misshapen, none_gives, ReadsBack, Around}
 use Rattle.shelf_view.specs.declared.refusal.Refusal.{Refusal}
-use Rattle.shelf_view.specs.declared.refusal.Refusal.TheVariants.{NoDocument, BadPart, SmallBuffer, BadFingerprint, NoWindow}
+use Rattle.shelf_view.specs.declared.refusal.Refusal.TheVariants.{SmallBuffer, BadFingerprint, NoWindow}
 use Rattle.shelf_view.specs.declared.view.part.Part.{Part}
-use Rattle.shelf_view.proofs.Firsts.{first_is, first_stays, first_then}
 use Rattle.shelf_view.proofs.Copying.{room_for}
+use Rattle.shelf_view.proofs.Marking.{first_half}
 
 -- a fingerprint is told by its digits
 written_back : (x y : Sl2) → written x ≡ written y → x ≡ y
@@ -58,29 +55,26 @@ module _ (digits text : List ℕ) (a b : ℕ) (x front back : Sl2) (is : written
   pub found : (s : Window) → ReadBack front back x (Some s) → Gives text a b digits (window_text s) × ((v : List ℕ) → Gives text a b digits v → v ≡ window_text s)
   found s r = (by_texts (window_text s) r.0, λ v g. r.1 v (by_values v g))
 
-module _ (s : Shelved (PairRow Entries LineColumnRow)) where
-  pub around : (p : Part) (v w : Pair Sl2 LineColumn) (n : ℕ) → n ≡ length (text_of s.arena p.root)
-      → v ≡ fold_of marked (between 0 p.from (text_of s.arena p.root)) → w ≡ fold_of marked (between p.to n (text_of s.arena p.root))
-      → Around s p v.first w.first
-  around p v w n long ev ew =
-      let first : Pair Sl2 LineColumn → Sl2 = λ q. q.first in
-      let t = text_of s.arena p.root in (
-        ap first (ev ∙ fold_pair sl2 line_column_model (between 0 p.from t)) ∙ ap (λ i. fingerprint (take i t)) (sub-zero p.from),
-        ap first (ew ∙ fold_pair sl2 line_column_model (between p.to n t)) ∙ ap fingerprint (between_to_end t p.to n (omega arith)),
-      )
+-- the refusal of an `ok_or`
+pub refused_as : {A : Type 0} (o : Option A) {e why : Refusal} → ◌≡◌ {A = Result A Refusal} (Err e) (ok_or o why) → e ≡ why
+refused_as None h = cc
+refused_as (Some x) h = cc
+
+module _ (s : Shelved (Pair Entries LineColumn)) where
+  pub around : (p : Part) (t : List ℕ) (v w : Pair Sl2 LineColumn) (n : ℕ) → t ≡ text_of s.arena p.root → n ≡ length t
+      → v ≡ fold_of marked (between 0 p.from t) → w ≡ fold_of marked (between p.to n t) → Around s p v.first w.first
+  around p t v w n is long ev ew = (
+    first_half (between 0 p.from t) v ev ∙ ap fingerprint (between_from_start t p.from ∙ ap (take p.from) is),
+    first_half (between p.to n t) w ew ∙ ap fingerprint (between_to_end t p.to n (omega arith) ∙ ap (drop p.to) is),
+  )
 
   module _ (d a b n : ℕ) (old digits : List ℕ) where
     -- the reasons before the fingerprint is looked at
     pub refused_part : (e : Refusal) → of_part (state_of s) d a b ≡ Some e → ReadsBack (of_copy (state_of s) d a b 5 n) (text_at (state_of s) d) a b digits old old (Err e)
-    refused_part e h =
-        (earlier (first_stays ((unknown (state_of s) d, NoDocument) ∷ (bad_part (text_at (state_of s) d) a b, BadPart) ∷ []) ((ltb n 5, SmallBuffer) ∷ []) e h), refl)
+    refused_part e h = (earlier (grind (arith, common_steps)), refl)
 
     pub refused_buffer : of_part (state_of s) d a b ≡ None → n < 5 → ReadsBack (of_copy (state_of s) d a b 5 n) (text_at (state_of s) d) a b digits old old (Err SmallBuffer)
-    refused_buffer h k = (
-      earlier (first_then ((unknown (state_of s) d, NoDocument) ∷ (bad_part (text_at (state_of s) d) a b, BadPart) ∷ []) ((ltb n 5, SmallBuffer) ∷ []) h
-          ∙ first_is SmallBuffer [] (grind (arith, nat_tests))),
-      refl,
-    )
+    refused_buffer h k = (earlier (grind (arith, common_steps, nat_tests)), refl)
 
     pub refused_form : of_part (state_of s) d a b ≡ None → 5 ≤ n → ¬ (WellFormed digits)
         → ReadsBack (of_copy (state_of s) d a b 5 n) (text_at (state_of s) d) a b digits old old (Err BadFingerprint)

@@ -1,8 +1,6 @@
 -- Where the texts of a shelf lie.
 use Rattle.std.specs.Prelude.{ℕ, Bool, true, ◌&&◌, List, [], ◌∷◌, length, Some, None, Option, nat_le}
-use Rattle.rope.specs.Arena.{Arena, text_of, rooted}
-use Rattle.rope.specs.declared.record.Root.{Root}
-use Rattle.rope.specs.declared.record.Root.TheVariants.{Empty}
+use Rattle.rope.specs.Arena.{Arena, Root, text_of, rooted}
 
 -- a document or draft has at most 1,048,576 bytes
 abbrev pub most : ℕ
@@ -18,5 +16,5 @@ all_fine a (p ∷ ps) = fine a p && all_fine a ps
 
 -- the root of a draft; there is no text where none is open
 abbrev pub root_in : Option Root → Root
-root_in None = Empty
+root_in None = None
 root_in (Some p) = p

@@ -4,9 +4,7 @@ use Rattle.monoid.specs.Monoid.{Model, fold_of}
 use Rattle.monoid.specs.LineColumnValues.{line_column_model}
 use Rattle.monoid.specs.Pair.{pair_model}
 use Rattle.monoid.specs.declared.line_column.LineColumn.{LineColumn}
-use Rattle.monoid.specs.declared.line_column.LineColumnRow.{LineColumnRow}
 use Rattle.monoid.specs.declared.pair.Pair.{Pair}
-use Rattle.monoid.specs.declared.pair.PairRow.{PairRow}
 use Rattle.zemor.specs.Values.{sl2, row}
 use Rattle.zemor.specs.Windows.{Short}
 use Rattle.zemor.specs.Written.{hex, bytes_of, WellFormed}
@@ -20,7 +18,7 @@ use Rattle.shelf_view.specs.declared.view.part.Part.{Part}
 use Rattle.shelf_view.specs.declared.sameness.Sameness.{Sameness}
 use Rattle.shelf_view.specs.declared.sameness.Sameness.TheVariants.{Different, Equal, Alike}
 
-abbrev pub marked : Model (Pair Sl2 LineColumn) (PairRow Entries LineColumnRow)
+abbrev pub marked : Model (Pair Sl2 LineColumn) (Pair Entries LineColumn)
 marked = pair_model sl2 line_column_model
 
 -- the fingerprint of a text, and as 32 digits
@@ -56,6 +54,6 @@ ReadsBack why text a b digits old new (Ok n) =
 ReadsBack why text a b digits old new (Err e) = Unread why text a b digits e × (new ≡ old)
 
 -- the fingerprints of what stands before and behind a part
-abbrev pub Around : Shelved (PairRow Entries LineColumnRow) → Part → Sl2 → Sl2 → Type 0
+abbrev pub Around : Shelved (Pair Entries LineColumn) → Part → Sl2 → Sl2 → Type 0
 Around s p front back =
     (front ≡ fingerprint (take p.from (text_of s.arena p.root))) × (back ≡ fingerprint (drop p.to (text_of s.arena p.root)))

@@ -1,8 +1,7 @@
 -- Where a document lies.
 use Rattle.std.specs.Prelude.{◌≡◌, ℕ, ◌≤◌, true, length, slice_index_or}
 use Rattle.monoid.specs.Monoid.{Model}
-use Rattle.rope.specs.Arena.{text_of, height_of, kept_of}
-use Rattle.rope.specs.declared.record.Root.{Root}
+use Rattle.rope.specs.Arena.{Root, text_of, height_of, kept_of}
 use Rattle.shelf_view.specs.Documents.{fine, root_in}
 use Rattle.shelf_view.specs.State.{Shelved, state_of, heights_of, kept_values, text_at, draft_text}
 use Rattle.shelf_view.specs.declared.view.part.Part.{Part}

@@ -2,9 +2,8 @@
 use Rattle.std.specs.Prelude.{ℕ, Bool, not, ◌&&◌, ◌||◌, List, [], ◌∷◌, map, length, is_some, Option, ◌==◌, nat_le, nat_lt, slice_index_or}
 use Rattle.std.specs.Option.{option_map, unwrap_or}
 use Rattle.monoid.specs.Monoid.{Model}
-use Rattle.rope.specs.Arena.{Arena, text_of, height_of, kept_of}
+use Rattle.rope.specs.Arena.{Arena, Root, text_of, height_of, kept_of}
 use Rattle.rope.specs.Memory.{seen}
-use Rattle.rope.specs.declared.record.Root.{Root}
 use Rattle.shelf_view.specs.Documents.{root_in}
 use Rattle.shelf_view.specs.declared.draft_id.DraftId.{DraftId}
 use Rattle.shelf_view.specs.declared.view.View.{View}

@@ -5,40 +5,26 @@ ghost use Rattle.shelf_view.specs.Refusals.{number_of};
 /// The numbered reasons. A call answers the first that holds, in the order of their numbers.
 #[derive(Clone, Copy, PartialEq, Eq, Debug)]
 pub enum Refusal {
-    BadNetstring,
-    BadCall,
-    StrangeDraft,
-    DraftOpen,
-    NoDocument,
-    BadPart,
-    TooLong,
-    SmallBuffer,
-    BadFingerprint,
-    NoWindow,
-    TextFull,
-    RecordsShort,
-    NumbersSpent,
+    BadNetstring = 1,
+    BadCall = 2,
+    StrangeDraft = 3,
+    DraftOpen = 4,
+    NoDocument = 5,
+    BadPart = 6,
+    TooLong = 7,
+    SmallBuffer = 8,
+    BadFingerprint = 9,
+    NoWindow = 10,
+    TextFull = 11,
+    RecordsShort = 12,
+    NumbersSpent = 13,
 }
 
 impl Refusal {
-    /// The refusal's number.
+    /// The refusal's number: a method and no `From`, since the documents call it so.
     pub fn number(self) -> u8
         ensures { result ≡ number_of self }
     {
-        match self {
-            Refusal::BadNetstring => 1,
-            Refusal::BadCall => 2,
-            Refusal::StrangeDraft => 3,
-            Refusal::DraftOpen => 4,
-            Refusal::NoDocument => 5,
-            Refusal::BadPart => 6,
-            Refusal::TooLong => 7,
-            Refusal::SmallBuffer => 8,
-            Refusal::BadFingerprint => 9,
-            Refusal::NoWindow => 10,
-            Refusal::TextFull => 11,
-            Refusal::RecordsShort => 12,
-            Refusal::NumbersSpent => 13,
-        }
+        self as u8
     }
 }

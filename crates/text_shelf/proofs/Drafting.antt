@@ -1,15 +1,13 @@
 -- Drafts: started, lengthened and sealed.
-use Rattle.std.proofs.Common.{◌≡◌, ℕ, ◌+◌, ◌<◌, ◌≤◌, true, false, ◌||◌, ltb, leb, List, [], ◌∷◌, ◌++◌, length, get_or, is_some, Some, None, Option, sym, refl, ap, ◌∙◌, subst, append-nil, arith, length-append, Bor}
+use Rattle.std.proofs.Common.{◌≡◌, ℕ, ◌+◌, ◌<◌, ◌≤◌, true, false, ◌||◌, ltb, leb, List, [], ◌∷◌, ◌++◌, length, get_or, is_some, Some, None, Option, Ok, sym, refl, ap, ◌∙◌, subst, append-nil, arith, length-append, Bor}
 use Rattle.std.proofs.lemmas.Bool.{ltb-false, or_parts, lt-leb}
 use Rattle.std.specs.Option.{option_map}
 use Rattle.monoid.specs.Monoid.{Model}
 use Rattle.rope.specs.Arena.{rooted, height_of}
 use Rattle.rope.specs.Memory.{arena_of}
-use Rattle.rope.specs.declared.record.Root.{Root}
-use Rattle.rope.specs.declared.record.Root.TheVariants.{Empty}
+use Rattle.rope.specs.Arena.{Root}
 use Rattle.rope.specs.declared.store.Store.{Store}
-use Rattle.rope.proofs.Readings.{shaped_of}
-use Rattle.rope.proofs.Keeping.{held_of, fills_none, takes_none}
+use Rattle.rope.proofs.Keeping.{fills_none, takes_none}
 use Rattle.rope_cut.specs.Parts.{text_in, height_in}
 use Rattle.rope_keep.specs.Kept.{Grows, add_need}
 use Rattle.shelf_view.specs.Documents.{most}
@@ -19,42 +17,42 @@ use Rattle.shelf_view.specs.State.{draft_text}
 use Rattle.shelf_view.specs.Places.{Drafts}
 use Rattle.shelf_view.specs.declared.draft_id.DraftId.{DraftId}
 use Rattle.shelf_view.proofs.Firsts.{first_none, first_not}
-use Rattle.text_shelf.specs.Kept.{kept}
+use Rattle.rope.specs.Held.{held, Gains}
 use Rattle.text_shelf.specs.Shelves.{Parts, parts, shelved, brought, told, strings}
 use Rattle.text_shelf.specs.Calls.{with_draft, accepted, need, reason, reasons}
 use Rattle.text_shelf.specs.Steps.{Changed, Steps}
 use Rattle.text_shelf.specs.declared.call.Call.TheVariants.{Open, Add, Seal}
 use Rattle.text_shelf.specs.declared.call.Answer.TheVariants.{Made, Opened, Done}
-use Rattle.text_shelf.specs.declared.places.Places.{Places}
+use Rattle.rope.specs.declared.lent.Lent.{Lent}
 use Rattle.text_shelf.specs.declared.shelf.Shelf.{Shelf}
+use Rattle.text_shelf.specs.declared.shelf.TheConstants.{MOST_PLACES}
 use Rattle.text_shelf.proofs.Staying.{fine_root, all_fine_stays, texts_stay, heights_stay}
-use Rattle.text_shelf.proofs.Appending.{Firm, firm_of, valid_store, count_texts, Pushes, takes_grows, same_room, unspent, firm_after, strings_after, changed_after}
+use Rattle.text_shelf.proofs.Appending.{Firm, firm_of, count_texts, takes_grows, same_room, firm_after, strings_after, changed_after}
 
 -- a shelf of which only the draft changes
-pub still : {V R : Type 0} (m : Model V R) (s : Parts V R) (d : Option Root) (o : ℕ)
-    → Changed m s (record { store = s.store; places = s.places; draft = d; mark = s.mark; opened = o }) [] 0
-still m s d o = record {
+pub still : {V R : Type 0} {kind : _} (s : Parts V R kind) (d : Option Root) (o : ℕ)
+    → Changed s (record { store = s.store; places = s.places; draft = d; mark = s.mark; opened = o }) [] 0
+still s d o = record {
   same_brought = refl;
   cost = omega arith;
   added_text = sym (append-nil (arena_of s.store).added);
-  added = fills_none s.store.added_used s.store.added.now;
-  records = fills_none s.store.used s.store.records.now;
-  places = fills_none s.places.count s.places.places.now;
+  added = fills_none s.store.added.used s.store.added.memory.now;
+  records = fills_none s.store.records.used s.store.records.memory.now;
+  places = fills_none s.places.used s.places.memory.now;
   heights = λ k h. refl;
-  sums = λ x. x;
 }
 
-pub open_step : {V R : Type 0} {kind : _} (m : Model V R) (s t : Shelf V R kind) → reason (brought (parts s)) (told (parts s)) (strings (parts s)) Open ≡ None
-    → parts t ≡ record { store = s.store; places = s.places; draft = Some Empty; mark = s.mark; opened = s.opened + 1 }
-    → Steps m s Open (Opened (record { mark = s.mark; count = s.opened + 1 })) t
-open_step m s t none is =
-    rw none (refl, ap strings is, subst (λ p. Changed m (parts s) p [] 0) (sym is) (still m (parts s) (Some Empty) (s.opened + 1)))
+pub open_step : {V R : Type 0} {kind : _} (s t : Shelf V R kind) → reason (brought (parts s)) (told (parts s)) (strings (parts s)) Open ≡ None
+    → parts t ≡ record { store = s.store; places = s.places; draft = Some None; mark = s.mark; opened = s.opened + 1 }
+    → Steps s Open (Ok (Opened (record { mark = s.mark; count = s.opened + 1 }))) t
+open_step s t none is =
+    rw none (refl, ap strings is, subst (λ p. Changed (parts s) p [] 0) (sym is) (still (parts s) (Some None) (s.opened + 1)))
 
-module _ {V R : Type 0} {kind : _} (m : Model V R) (s : Shelf V R kind) (d : DraftId) (text : Bor (List ℕ)) (p root : Root) (store : Store V R)
+module _ {V R : Type 0} {kind : _} (m : Model V R) (s : Shelf V R kind) (d : DraftId) (text : Bor (List ℕ)) (p root : Root) (store : Store V R kind)
     (none : reason (brought (parts s)) (told (parts s)) (strings (parts s)) (Add d text) ≡ None) (drafts : Drafts m (shelved (parts s)) p)
-    (g : Grows m s.store store text.now (add_need (height_in s.store p) (length text.now)))
-    (r : rooted store.used root ≡ true) (is : text_in store root ≡ text_in s.store p ++ text.now) where
-  abbrev pub longer_draft : Parts V R
+    (g : Grows s.store store text.now (add_need (height_in s.store p) (length text.now)))
+    (r : rooted store.records.used root ≡ true) (is : text_in store root ≡ text_in s.store p ++ text.now) where
+  abbrev pub longer_draft : Parts V R kind
   longer_draft = record { store = store; places = s.places; draft = Some root; mark = s.mark; opened = s.opened }
 
   text_after : text_in store root ≡ draft_text (strings (parts s)) ++ text.now
@@ -68,54 +66,47 @@ module _ {V R : Type 0} {kind : _} (m : Model V R) (s : Shelf V R kind) (d : Dra
 
   pub firm_longer : Firm longer_draft
   firm_longer = record {
-    bounded = held_of g.valid;
-    shaped = shaped_of g.valid.sound;
-    few = s.few;
-    documents = all_fine_stays s.store store (valid_store s) g.valid g.keeps (kept s.places) s.documents;
-    drafted = fine_root store g.valid root r short_after;
+    documents = all_fine_stays s.store store g.keeps (held s.places) s.documents;
+    drafted = fine_root store root r short_after;
   }
 
-  pub add_step : (t : Shelf V R kind) → parts t ≡ longer_draft → Steps m s (Add d text) Done t
+  pub add_step : (t : Shelf V R kind) → parts t ≡ longer_draft → Steps s (Add d text) (Ok Done) t
   add_step t same =
-      let texts = texts_stay s.store store (valid_store s) g.valid g.keeps (kept s.places) s.documents in
+      let texts = texts_stay s.store store g.keeps (held s.places) s.documents in
       let more : length (arena_of store).added ≡ length (arena_of s.store).added + length text.now = ap length g.added ∙ length-append (arena_of s.store).added text.now in
       let after : strings longer_draft ≡ accepted s.store.build.now (Add d text) (strings (parts s)) =
       λ i. record { texts = [] ∷ texts i; draft = Some (text_after i); opened = s.opened; added = more i } in
       let high : height_in s.store p ≡ (told (parts s)).draft = ap (height_of (arena_of s.store)) drafts.is in
-      let changed : Changed m (parts s) longer_draft text.now (need (told (parts s)) (Add d text)) =
+      let changed : Changed (parts s) longer_draft text.now (need (told (parts s)) (Add d text)) =
       record {
-        same_brought = same_room (parts s) (firm_of s) (valid_store s) store text.now _ g s.places refl (Some root) s.opened;
+        same_brought = same_room (parts s) (firm_of s) store text.now _ g s.places refl (Some root) s.opened;
         cost = omega (arith, g.cost, ap (λ h. add_need h (length text.now)) high);
         added_text = g.added;
         added = g.keeps.added;
         records = g.keeps.records;
-        places = fills_none s.places.count s.places.places.now;
-        heights = λ k h. ap (λ hs. get_or (0 ∷ hs) k 0) (heights_stay s.store store (valid_store s) g.valid g.keeps (kept s.places) s.documents);
-        sums = g.keeps.sums;
+        places = fills_none s.places.used s.places.memory.now;
+        heights = λ k h. ap (λ hs. get_or (0 ∷ hs) k 0) (heights_stay s.store store g.keeps (held s.places) s.documents);
       } in
-      rw none (refl, ap strings same ∙ after, subst (λ q. Changed m (parts s) q text.now (need (told (parts s)) (Add d text))) (sym same) changed)
+      rw none (refl, ap strings same ∙ after, subst (λ q. Changed (parts s) q text.now (need (told (parts s)) (Add d text))) (sym same) changed)
 
-module _ {V R : Type 0} {kind : _} (m : Model V R) (s : Shelf V R kind) (d : DraftId) (p : Root) (places : Places)
+module _ {V R : Type 0} {kind : _} (m : Model V R) (s : Shelf V R kind) (d : DraftId) (p : Root) (places : Lent Root MOST_PLACES)
     (none : reason (brought (parts s)) (told (parts s)) (strings (parts s)) (Seal d) ≡ None) (drafts : Drafts m (shelved (parts s)) p)
-    (pushes : Pushes s.places places p) where
-  abbrev pub sealed_shelf : Parts V R
+    (pushes : Gains s.places places (p ∷ [])) where
+  abbrev pub sealed_shelf : Parts V R kind
   sealed_shelf = record { store = s.store; places = places; draft = None; mark = s.mark; opened = s.opened }
 
-  free : (s.places.count < length s.places.places.now) × (s.places.count < 4095)
-  free = unspent (parts s) (firm_of s) (first_none (reasons (brought (parts s)) (told (parts s)) (strings (parts s)) (Seal d)) none).1.0
-
-  grows : Grows m s.store s.store [] 0
-  grows = takes_grows s.store s.store 0 (takes_none s.store (valid_store s))
+  grows : Grows s.store s.store [] 0
+  grows = takes_grows s.store s.store 0 (takes_none s.store)
 
   pub firm_sealed : Firm sealed_shelf
   firm_sealed =
-      firm_after (parts s) (firm_of s) (valid_store s) s.store [] 0 grows places p (draft_text (strings (parts s))) pushes drafts.fine_root (sym drafts.text_is) free None refl
+      firm_after (parts s) (firm_of s) s.store [] 0 grows places p (draft_text (strings (parts s))) pushes drafts.fine_root (sym drafts.text_is) None refl
 
-  pub seal_step : (t : Shelf V R kind) (k : ℕ) → parts t ≡ sealed_shelf → k ≡ s.places.count + 1 → Steps m s (Seal d) (Made k) t
+  pub seal_step : (t : Shelf V R kind) (k : ℕ) → parts t ≡ sealed_shelf → k ≡ s.places.used + 1 → Steps s (Seal d) (Ok (Made k)) t
   seal_step t k same n =
-      let after = strings_after (parts s) (firm_of s) (valid_store s) s.store [] 0 grows places p (draft_text (strings (parts s))) pushes drafts.fine_root (sym drafts.text_is) free in
-      let changed = changed_after (parts s) (firm_of s) (valid_store s) s.store [] 0 grows places p (draft_text (strings (parts s))) pushes drafts.fine_root (sym drafts.text_is) free None in
-      rw none (ap Made (n ∙ sym (count_texts (parts s) s.few.0)), ap strings same ∙ ap (λ z. with_draft z None) after, subst (λ q. Changed m (parts s) q [] 0) (sym same) changed)
+      let after = strings_after (parts s) (firm_of s) s.store [] 0 grows places p (draft_text (strings (parts s))) pushes drafts.fine_root (sym drafts.text_is) in
+      let changed = changed_after (parts s) (firm_of s) s.store [] 0 grows places p (draft_text (strings (parts s))) pushes drafts.fine_root (sym drafts.text_is) None in
+      rw none (ap (λ j. Ok (Made j)) (n ∙ sym (count_texts (parts s))), ap strings same ∙ ap (λ z. with_draft z None) after, subst (λ q. Changed (parts s) q [] 0) (sym same) changed)
 
 -- no draft is open, and one more can be counted
 pub none_open : (f : Root → List ℕ) (d : Option Root) (o : ℕ) → false ≡ is_some d → o < 4294967295 → first ((is_some (option_map f d) || leb 4294967295 o, DraftOpen) ∷ []) ≡ None

@@ -1,9 +1,9 @@
 -- Cut and splice, from what the trees tell.
-use Rattle.std.proofs.Common.{◌≡◌, ℕ, ◌+◌, ◌≤◌, max, [], ◌++◌, length, get_or, take, drop, None, sym, ap, ◌∙◌, subst, arith}
+use Rattle.std.proofs.Common.{◌≡◌, ℕ, ◌+◌, ◌≤◌, max, [], ◌∷◌, ◌++◌, length, get_or, take, drop, None, sym, ap, ◌∙◌, subst, arith}
 use Rattle.std.specs.List.{between}
 use Rattle.monoid.specs.Monoid.{Model}
 use Rattle.rope.specs.Memory.{arena_of, Takes}
-use Rattle.rope.specs.declared.record.Root.{Root}
+use Rattle.rope.specs.Arena.{Root}
 use Rattle.rope.specs.declared.store.Store.{Store}
 use Rattle.rope_cut.specs.Parts.{Makes, edit_need, text_in, height_in, higher}
 use Rattle.shelf_view.specs.Documents.{most}
@@ -15,32 +15,34 @@ use Rattle.shelf_view.proofs.Placing.{short_of}
 use Rattle.text_shelf.specs.Shelves.{Parts, parts, shelved, brought, told, strings}
 use Rattle.text_shelf.specs.Calls.{reason, need, spliced}
 use Rattle.text_shelf.specs.declared.call.Call.TheVariants.{Cut, Splice}
-use Rattle.text_shelf.specs.declared.places.Places.{Places}
+use Rattle.rope.specs.Held.{Gains}
+use Rattle.rope.specs.declared.lent.Lent.{Lent}
 use Rattle.text_shelf.specs.declared.shelf.Shelf.{Shelf}
-use Rattle.text_shelf.proofs.Appending.{Appends, Pushes, append, takes_grows, cut_fits, splice_fits}
+use Rattle.text_shelf.specs.declared.shelf.TheConstants.{MOST_PLACES}
+use Rattle.text_shelf.proofs.Appending.{Appends, append, takes_grows, cut_fits, splice_fits}
 
-module _ {V R : Type 0} {kind : _} (m : Model V R) (s : Shelf V R kind) (store : Store V R) (places : Places) (root : Root) (pushes : Pushes s.places places root) where
-  abbrev pub after : Parts V R
+module _ {V R : Type 0} {kind : _} (m : Model V R) (s : Shelf V R kind) (store : Store V R kind) (places : Lent Root MOST_PLACES) (root : Root) (pushes : Gains s.places places (root ∷ [])) where
+  abbrev pub after : Parts V R kind
   after = record { store = store; places = places; draft = s.draft; mark = s.mark; opened = s.opened }
 
   module _ (d x y : ℕ) (p : Part) (span : Span m (shelved (parts s)) d x y p) where
     pub cut_appends : reason (brought (parts s)) (told (parts s)) (strings (parts s)) (Cut d x y) ≡ None
-        → Makes m s.store store root (between p.from p.to (text_in s.store p.root)) (edit_need (height_in s.store p.root)) (height_in s.store p.root)
-        → Appends m (parts s) after (between x y (text_at (strings (parts s)) d)) [] (need (told (parts s)) (Cut d x y))
+        → Makes s.store store root (between p.from p.to (text_in s.store p.root)) (edit_need (height_in s.store p.root)) (height_in s.store p.root)
+        → Appends (parts s) after (between x y (text_at (strings (parts s)) d)) [] (need (told (parts s)) (Cut d x y))
     cut_appends none made =
-        let takes = subst (λ n. Takes m s.store store (edit_need n)) (sym span.lies.high) made.takes in
+        let takes = subst (λ n. Takes s.store store (edit_need n)) (sym span.lies.high) made.takes in
         let short : length (text_at (strings (parts s)) d) ≤ most = omega (arith, ap length span.lies.text_is, short_of (arena_of s.store) p.root span.lies.fine_root) in
-        append m s store [] (need (told (parts s)) (Cut d x y)) (takes_grows s.store store _ takes) places root (between x y (text_at (strings (parts s)) d)) pushes made.root
+        append s store [] (need (told (parts s)) (Cut d x y)) (takes_grows s.store store _ takes) places root (between x y (text_at (strings (parts s)) d)) pushes made.root
         (made.text_is ∙ part_text m (shelved (parts s)) d x y p span) (cut_fits (brought (parts s)) (told (parts s)) (strings (parts s)) d x y short none)
 
     pub splice_appends : (e : ℕ) (q : Root) → Lies m (shelved (parts s)) e q → reason (brought (parts s)) (told (parts s)) (strings (parts s)) (Splice d x y e) ≡ None
-        → Makes m s.store store root (take p.from (text_in s.store p.root) ++ (text_in s.store q ++ drop p.to (text_in s.store p.root)))
+        → Makes s.store store root (take p.from (text_in s.store p.root) ++ (text_in s.store q ++ drop p.to (text_in s.store p.root)))
         (edit_need (higher s.store p.root q)) (higher s.store p.root q + 2)
-        → Appends m (parts s) after (spliced (text_at (strings (parts s)) d) x y (text_at (strings (parts s)) e)) [] (need (told (parts s)) (Splice d x y e))
+        → Appends (parts s) after (spliced (text_at (strings (parts s)) d) x y (text_at (strings (parts s)) e)) [] (need (told (parts s)) (Splice d x y e))
     splice_appends e q lies none made =
         let high : higher s.store p.root q ≡ max (get_or (told (parts s)).heights d 0) (get_or (told (parts s)).heights e 0) = λ i. max (sym span.lies.high i) (sym lies.high i) in
-        let takes = subst (λ n. Takes m s.store store (edit_need n)) high made.takes in
+        let takes = subst (λ n. Takes s.store store (edit_need n)) high made.takes in
         let front : take p.from (text_in s.store p.root) ≡ take x (text_at (strings (parts s)) d) = λ i. take (span.from_is i) (sym span.lies.text_is i) in
         let back : drop p.to (text_in s.store p.root) ≡ drop y (text_at (strings (parts s)) d) = λ i. drop (span.to_is i) (sym span.lies.text_is i) in
-        append m s store [] (need (told (parts s)) (Splice d x y e)) (takes_grows s.store store _ takes) places root (spliced (text_at (strings (parts s)) d) x y (text_at (strings (parts s)) e)) pushes made.root
+        append s store [] (need (told (parts s)) (Splice d x y e)) (takes_grows s.store store _ takes) places root (spliced (text_at (strings (parts s)) d) x y (text_at (strings (parts s)) e)) pushes made.root
         (made.text_is ∙ (λ i. front i ++ (sym lies.text_is i ++ back i))) (splice_fits (brought (parts s)) (told (parts s)) (strings (parts s)) d x y e none)

@@ -4,19 +4,15 @@ use Rattle.std.proofs.lemmas.Bool.{lt-ltb, le-ltb}
 use Rattle.rope_cut.specs.Parts.{edit_need}
 use Rattle.shelf_view.specs.Documents.{most}
 use Rattle.shelf_view.specs.Refusals.{Reasons, first}
-use Rattle.shelf_view.specs.State.{State, Shelved, state_of, unknown, text_at, bad_part, strange}
-use Rattle.shelf_view.specs.Questions.{of_document, of_part, of_draft}
-use Rattle.shelf_view.specs.declared.draft_id.DraftId.{DraftId}
+use Rattle.shelf_view.specs.State.{Shelved, state_of, unknown, text_at, bad_part}
+use Rattle.shelf_view.specs.Questions.{of_document, of_part}
 use Rattle.shelf_view.specs.declared.refusal.Refusal.{Refusal}
-use Rattle.shelf_view.specs.declared.refusal.Refusal.TheVariants.{StrangeDraft, NoDocument, BadPart, TooLong, RecordsShort, NumbersSpent}
+use Rattle.shelf_view.specs.declared.refusal.Refusal.TheVariants.{NoDocument, BadPart, TooLong}
 use Rattle.shelf_view.proofs.Firsts.{first_is, first_not, first_stays, first_then, first_or, passed}
 use Rattle.text_shelf.specs.Shelves.{Brought, Told}
-use Rattle.text_shelf.specs.Calls.{reason, records_short, numbers_spent, spliced}
-use Rattle.text_shelf.specs.declared.call.Call.TheVariants.{Cut, Splice, Seal}
-
--- the reasons that end the list of every call that makes a document
-abbrev pub memory : Brought → Told → State → ℕ → Reasons
-memory b t s n = (records_short b t n, RecordsShort) ∷ (numbers_spent b s, NumbersSpent) ∷ []
+use Rattle.text_shelf.specs.Calls.{reason, spliced}
+use Rattle.text_shelf.specs.Ends.{memory}
+use Rattle.text_shelf.specs.declared.call.Call.TheVariants.{Cut, Splice}
 
 module _ {R : Type 0} (b : Brought) (t : Told) (v s : Shelved R) (same : v ≡ s) where
   part_of : (d x y : ℕ) (o : Option Refusal) → of_part (state_of v) d x y ≡ o → of_part (state_of s) d x y ≡ o
@@ -31,11 +27,11 @@ module _ {R : Type 0} (b : Brought) (t : Told) (v s : Shelved R) (same : v ≡ s
         first_stays ((unknown (state_of s) d, NoDocument) ∷ (bad_part (text_at (state_of s) d) x y, BadPart) ∷ []) (memory b t (state_of s) (edit_need (get_or t.heights d 0))) e
         (part_of d x y (Some e) h)
 
-    pub cut_decided : (h : ℕ) (w : Option Refusal) → of_part (state_of v) d x y ≡ None → h ≡ get_or t.heights d 0 → w ≡ first (memory b t (state_of s) (edit_need h))
+    pub cut_decided : (h : ℕ) (w : Option Refusal) → of_part (state_of v) d x y ≡ None → h ≡ get_or t.heights d 0 → first (memory b t (state_of s) (edit_need h)) ≡ w
         → reason b t (state_of s) (Cut d x y) ≡ w
     cut_decided h w none high is =
         first_then ((unknown (state_of s) d, NoDocument) ∷ (bad_part (text_at (state_of s) d) x y, BadPart) ∷ []) (memory b t (state_of s) (edit_need (get_or t.heights d 0)))
-        (part_of d x y None none) ∙ ap (λ k. first (memory b t (state_of s) (edit_need k))) (sym high) ∙ sym is
+        (part_of d x y None none) ∙ ap (λ k. first (memory b t (state_of s) (edit_need k))) (sym high) ∙ is
 
     module _ (e : ℕ) where
       -- what follows the document numbers
@@ -55,16 +51,9 @@ module _ {R : Type 0} (b : Brought) (t : Told) (v s : Shelved R) (same : v ≡ s
       known : (k : ℕ) → of_document (state_of v) k ≡ None → unknown (state_of s) k ≡ false
       known k h = (passed (unknown (state_of s) k) NoDocument [] (document_of k None h)).0
 
-      pub splice_first : (f : Refusal) → of_document (state_of v) d ≡ Some f → reason b t (state_of s) (Splice d x y e) ≡ Some f
-      splice_first f h =
-          apart ∙ first_stays ((unknown (state_of s) d, NoDocument) ∷ []) ((unknown (state_of s) e, NoDocument) ∷ (parted ++ (long ++ last))) f (document_of d (Some f) h)
-
       module _ (one : of_document (state_of v) d ≡ None) where
         past_one : reason b t (state_of s) (Splice d x y e) ≡ first ((unknown (state_of s) e, NoDocument) ∷ (parted ++ (long ++ last)))
         past_one = apart ∙ first_not NoDocument ((unknown (state_of s) e, NoDocument) ∷ (parted ++ (long ++ last))) (known d one)
-
-        pub splice_second : (f : Refusal) → of_document (state_of v) e ≡ Some f → reason b t (state_of s) (Splice d x y e) ≡ Some f
-        splice_second f h = past_one ∙ first_stays ((unknown (state_of s) e, NoDocument) ∷ []) (parted ++ (long ++ last)) f (document_of e (Some f) h)
 
         module _ (two : of_document (state_of v) e ≡ None) where
           past_two : reason b t (state_of s) (Splice d x y e) ≡ first (parted ++ (long ++ last))
@@ -86,11 +75,11 @@ module _ {R : Type 0} (b : Brought) (t : Told) (v s : Shelved R) (same : v ≡ s
             splice_long h = past_part ∙ first_is TooLong last (ap (ltb most) (sym is) ∙ lt-ltb _ _ h)
 
             pub splice_decided : n ≤ most → (h : ℕ) (w : Option Refusal) → h ≡ max (get_or t.heights d 0) (get_or t.heights e 0)
-                → w ≡ first (memory b t (state_of s) (edit_need h)) → reason b t (state_of s) (Splice d x y e) ≡ w
+                → first (memory b t (state_of s) (edit_need h)) ≡ w → reason b t (state_of s) (Splice d x y e) ≡ w
             unfolding long last
             splice_decided short h w high decided =
                 past_part ∙ first_not TooLong last (ap (ltb most) (sym is) ∙ le-ltb _ _ short)
-                ∙ ap (λ k. first (memory b t (state_of s) (edit_need k))) (sym high) ∙ sym decided
+                ∙ ap (λ k. first (memory b t (state_of s) (edit_need k))) (sym high) ∙ decided
 
 -- the length of a spliced text
 pub length_spliced : (d e : List ℕ) (x y : ℕ) → x ≤ y → y ≤ length d → length (spliced d x y e) ≡ length d - (y - x) + length e
@@ -101,11 +90,3 @@ pub told_spliced : {R : Type 0} (v s : Shelved R) → v ≡ s → (d e x y n k :
 told_spliced v s same d e x y n k en ek h l =
     let there = length_spliced (text_at (state_of v) d) (text_at (state_of v) e) x y h l in
     (λ i. en i - (y - x) + ek i) ∙ sym there ∙ ap (λ z. length (spliced (text_at (state_of z) d) x y (text_at (state_of z) e))) same
-
--- the draft that is brought is the open one
-module _ {R : Type 0} (b : Brought) (t : Told) (v s : Shelved R) (same : v ≡ s) (id : DraftId) (mine : of_draft (state_of v) v.mark id ≡ None) (mark : b.mark ≡ s.mark) where
-  its_own : first ((strange (state_of s) b.mark id, StrangeDraft) ∷ []) ≡ None
-  its_own = ap (λ m. of_draft (state_of s) m id) mark ∙ ap (λ z. of_draft (state_of z) z.mark id) (sym same) ∙ mine
-
-  pub seal_decided : (w : Option Refusal) → first ((numbers_spent b (state_of s), NumbersSpent) ∷ []) ≡ w → reason b t (state_of s) (Seal id) ≡ w
-  seal_decided w h = first_then ((strange (state_of s) b.mark id, StrangeDraft) ∷ []) ((numbers_spent b (state_of s), NumbersSpent) ∷ []) its_own ∙ h

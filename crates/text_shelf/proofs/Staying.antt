@@ -2,32 +2,31 @@
 use Rattle.std.proofs.Common.{◌≡◌, ◌≤◌, true, leb, List, [], ◌∷◌, ◌++◌, map, length, Some, None, Option, sym, refl, ap, ◌∙◌}
 use Rattle.std.specs.Option.{option_map}
 use Rattle.std.proofs.lemmas.Bool.{and_parts, and_from, le-leb}
-use Rattle.monoid.specs.Monoid.{Model}
 use Rattle.rope.specs.Arena.{rooted, text_of, height_of}
-use Rattle.rope.specs.Memory.{arena_of, Valid, Keeps}
-use Rattle.rope.specs.declared.record.Root.{Root}
+use Rattle.rope.specs.Memory.{arena_of, Keeps}
+use Rattle.rope.specs.Arena.{Root}
 use Rattle.rope.specs.declared.store.Store.{Store}
 use Rattle.rope.proofs.Keeping.{used_length}
 use Rattle.rope_cut.proofs.Roots.{Stays, root_stays}
 use Rattle.shelf_view.specs.Documents.{fine, all_fine, root_in, most}
 
 -- a root of a store that is one of its used records
-pub fine_root : {V R : Type 0} (s : Store V R) → Valid s → (p : Root) → rooted s.used p ≡ true → length (text_of (arena_of s) p) ≤ most → fine (arena_of s) p ≡ true
-fine_root s w p r h =
-    and_from (rooted (length (arena_of s).records) p) (leb (length (text_of (arena_of s) p)) most) (ap (λ n. rooted n p) (used_length s w) ∙ r) (le-leb _ _ h)
+pub fine_root : {V R : Type 0} {kind : _} (s : Store V R kind) → (p : Root) → rooted s.records.used p ≡ true → length (text_of (arena_of s) p) ≤ most → fine (arena_of s) p ≡ true
+fine_root s p r h =
+    and_from (rooted (length (arena_of s).records) p) (leb (length (text_of (arena_of s) p)) most) (ap (λ n. rooted n p) (used_length s) ∙ r) (le-leb _ _ h)
 
-pub root_of : {V R : Type 0} (s : Store V R) → Valid s → (p : Root) → fine (arena_of s) p ≡ true → rooted s.used p ≡ true
-root_of s w p f =
-    ap (λ n. rooted n p) (sym (used_length s w)) ∙ (and_parts (rooted (length (arena_of s).records) p) (leb (length (text_of (arena_of s) p)) most) f).0
+pub root_of : {V R : Type 0} {kind : _} (s : Store V R kind) → (p : Root) → fine (arena_of s) p ≡ true → rooted s.records.used p ≡ true
+root_of s p f =
+    ap (λ n. rooted n p) (sym (used_length s)) ∙ (and_parts (rooted (length (arena_of s).records) p) (leb (length (text_of (arena_of s) p)) most) f).0
 
-module _ {V R : Type 0} {m : Model V R} (s t : Store V R) (w : Valid s) (x : Valid t) (k : Keeps m s t) where
+module _ {V R : Type 0} {kind : _} (s t : Store V R kind) (k : Keeps s t) where
   pub stays : (p : Root) → fine (arena_of s) p ≡ true → Stays s t p
-  stays p f = root_stays w k p (root_of s w p f)
+  stays p f = root_stays k p (root_of s p f)
 
   pub fine_stays : (p : Root) → fine (arena_of s) p ≡ true → fine (arena_of t) p ≡ true
   fine_stays p f =
       let h = stays p f in
-      and_from _ _ (ap (λ n. rooted n p) (used_length t x) ∙ h.root)
+      and_from _ _ (ap (λ n. rooted n p) (used_length t) ∙ h.root)
       (ap (λ z. leb (length z) most) h.text_is ∙ (and_parts (rooted (length (arena_of s).records) p) (leb (length (text_of (arena_of s) p)) most) f).1)
 
   pub all_fine_stays : (ps : List Root) → all_fine (arena_of s) ps ≡ true → all_fine (arena_of t) ps ≡ true
@@ -50,6 +49,6 @@ module _ {V R : Type 0} {m : Model V R} (s t : Store V R) (w : Valid s) (x : Val
   draft_stays None f = refl
   draft_stays (Some p) f = ap Some (stays p f).text_is
 
-pub all_fine_push : {V R : Type 0} (s : Store V R) (ps : List Root) (p : Root) → all_fine (arena_of s) ps ≡ true → fine (arena_of s) p ≡ true → all_fine (arena_of s) (ps ++ (p ∷ [])) ≡ true
+pub all_fine_push : {V R : Type 0} {kind : _} (s : Store V R kind) (ps : List Root) (p : Root) → all_fine (arena_of s) ps ≡ true → fine (arena_of s) p ≡ true → all_fine (arena_of s) (ps ++ (p ∷ [])) ≡ true
 all_fine_push s [] p f g = and_from _ _ g refl
 all_fine_push s (q ∷ ps) p f g = let h = and_parts (fine (arena_of s) q) (all_fine (arena_of s) ps) f in and_from _ _ h.0 (all_fine_push s ps p h.1 g)

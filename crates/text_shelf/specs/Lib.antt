@@ -1,5 +1,5 @@
-pub mod Kept
 pub mod Shelves
 pub mod Calls
-pub mod Longer
+pub mod Ends
+pub mod Whys
 pub mod Steps

@@ -1,6 +1,5 @@
 //! Calls that change a shelf, and their answers.
 use shelf_view::draft_id::DraftId;
-use shelf_view::refusal::Refusal;
 
 /// A call with its arguments.
 #[derive(Clone, Copy)]
@@ -30,7 +29,7 @@ pub enum Call<'t> {
     GiveUp(DraftId),
 }
 
-/// What a call answers.
+/// What an accepted call answers.
 #[derive(Clone, Copy)]
 pub enum Answer {
     /// The number of the document that was made.
@@ -39,5 +38,4 @@ pub enum Answer {
     Opened(DraftId),
     /// The draft was lengthened or given up.
     Done,
-    Refused(Refusal),
 }

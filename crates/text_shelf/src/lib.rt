@@ -3,5 +3,4 @@
 
 pub mod call;
 pub mod draft;
-pub mod places;
 pub mod shelf;

@@ -1,12 +1,11 @@
 //! The shelf.
-ghost use Rattle.std.specs.Prelude.{◌≡◌, ◌≤◌, true, length};
-ghost use Rattle.rope.specs.Arena.{Shaped};
-ghost use Rattle.rope.specs.Memory.{Held, arena_of};
+ghost use Rattle.std.specs.Prelude.{◌≡◌, true};
+ghost use Rattle.rope.specs.Held.{held};
+ghost use Rattle.rope.specs.Memory.{arena_of};
 ghost use Rattle.shelf_view.specs.Documents.{fine, all_fine, root_in};
-ghost use Rattle.text_shelf.specs.Kept.{kept};
 
-use crate::places::Places;
 use monoid::Monoid;
+use rope::lent::Lent;
 use rope::record::Root;
 use rope::store::Store;
 
@@ -16,17 +15,17 @@ mod drafts;
 mod edits;
 mod reasons;
 
+/// At most so many places are used, however many are lent.
+const MOST_PLACES: usize = 4095;
+
 /// A shelf over lent memory: its documents, and its open draft.
 #[derive(Drop)]
 pub struct Shelf<'b, 'a, M: Monoid> {
     store: Store<'b, 'a, M>,
-    places: Places<'a>,
+    places: Lent<'a, Root, MOST_PLACES>,
     draft: Option<Root>,
     mark: u32,
     opened: u32,
-    ghost bounded: { Held store },
-    ghost shaped: { Shaped (arena_of store) },
-    ghost few: { (places.count ≤ length places.places.now) × (places.count ≤ 4095) },
-    ghost documents: { all_fine (arena_of store) (kept places) ≡ true },
+    ghost documents: { all_fine (arena_of store) (held places) ≡ true },
     ghost drafted: { fine (arena_of store) (root_in draft) ≡ true },
 }

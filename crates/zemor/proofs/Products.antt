@@ -1,5 +1,5 @@
 -- Products of bits: their first bit, that they tell their string, how large they are, and what they are modulo p.
-use Rattle.std.proofs.Common.{◌≡◌, ℕ, zero, suc, ◌+◌, ◌-◌, ◌*◌, ◌%◌, ◌<◌, ◌≤◌, Bool, true, false, ◌⊎◌, List, [], ◌∷◌, length, Some, None, sym, refl, ap, ◌∙◌, le_trans, le_refl, mod-eq_of_lt, zero-add, add-one, arith, lit<, lit≤}
+use Rattle.std.proofs.Common.{◌≡◌, ℕ, zero, suc, ◌+◌, ◌-◌, ◌*◌, ◌%◌, ◌<◌, ◌≤◌, Bool, true, false, List, [], ◌∷◌, length, Some, sym, refl, ap, ◌∙◌, le_trans, le_refl, mod-eq_of_lt, zero-add, add-one, arith}
 use native.Mathlib.Nat.{mod-mod}
 use native.Mathlib.Decide.{le_ind}
 use Rattle.residue.specs.Residue.{prime}
@@ -7,7 +7,7 @@ use Rattle.residue.proofs.Modulo.{dot, same_add, same_mul}
 use Rattle.zemor.specs.Matrix.{identity, bit, matrix}
 use Rattle.zemor.specs.Bits.{product_of}
 use Rattle.residue.specs.Fibonacci.{fib}
-use Rattle.zemor.specs.Whole.{whole, whole_times, Bounded, Edge}
+use Rattle.zemor.specs.Whole.{whole, whole_times, Bounded}
 use Rattle.zemor.specs.Peeling.{First}
 use Rattle.zemor.specs.declared.matrix.Entries.{Entries}
 use Rattle.zemor.specs.Laws.{four}
@@ -31,28 +31,13 @@ module _ (m : Entries) where
   abbrev pub less_0 : Entries
   less_0 = record { a = m.a - m.c; b = m.b - m.d; c = m.c; d = m.d }
 
-  abbrev pub less_1 : Entries
-  less_1 = record { a = m.a; b = m.b; c = m.c - m.a; d = m.d - m.b }
-
   after_0 : m.c ≤ m.a → m.d ≤ m.b → (b : Bool) (w : List Bool) → whole (b ∷ w) ≡ m → (b ≡ false) × (whole w ≡ less_0)
   after_0 h k false w e =
       let s = entrywise e in (refl, four (whole w) less_0 (omega arith) (omega arith) (omega arith) (omega arith))
   after_0 h k true w e = let s = entrywise e in let p = positive w in absurd (omega arith)
 
-  after_1 : m.a ≤ m.c → m.b ≤ m.d → (b : Bool) (w : List Bool) → whole (b ∷ w) ≡ m → (b ≡ true) × (whole w ≡ less_1)
-  after_1 h k true w e =
-      let s = entrywise e in (refl, four (whole w) less_1 (omega arith) (omega arith) (omega arith) (omega arith))
-  after_1 h k false w e = let s = entrywise e in let p = positive w in absurd (omega arith)
-
   pub first_0 : m.c ≤ m.a → m.d ≤ m.b → First m (Some (false, less_0))
   first_0 h k = (four (whole_times (bit false) less_0) m (omega arith) (omega arith) (omega arith) (omega arith), after_0 h k)
-
-  pub first_1 : m.a ≤ m.c → m.b ≤ m.d → First m (Some (true, less_1))
-  first_1 h k = (four (whole_times (bit true) less_1) m (omega arith) (omega arith) (omega arith) (omega arith), after_1 h k)
-
-  pub first_none : (m.a < m.c) ⊎ (m.b < m.d) → (m.c < m.a) ⊎ (m.d < m.b) → First m None
-  first_none h k false w e = let s = entrywise e in omega arith
-  first_none h k true w e = let s = entrywise e in omega arith
 
 -- the empty product is no other
 pub one_is_empty : (b : Bool) (w : List Bool) → whole (b ∷ w) ≡ identity → ⊥
@@ -148,6 +133,3 @@ product_whole w h =
 
 pub within : Bounded
 within w = let b = bounded w in let t : fib (length w + 1) ≡ fib (suc (length w)) = ap fib (add-one (length w)) in omega arith
-
-pub edge : Edge
-edge = (fib_46, lit< tt, lit≤ tt)

@@ -1,12 +1,12 @@
 -- Strings of bits cut into bytes, and reading a window back.
-use Rattle.std.proofs.Common.{◌≡◌, ℕ, zero, suc, ◌+◌, ◌*◌, ◌/◌, ◌%◌, ◌^◌, ◌<◌, ◌≤◌, true, List, ◌∷◌, ◌++◌, map, length, Some, None, Option, sym, refl, ap, ◌∙◌, mod-lt, pow-suc, arith, lit<, pow-add}
+use Rattle.std.proofs.Common.{◌≡◌, ℕ, zero, suc, ◌+◌, ◌*◌, ◌/◌, ◌%◌, ◌^◌, ◌<◌, ◌≤◌, true, List, ◌∷◌, ◌++◌, map, length, Some, None, sym, refl, ap, ◌∙◌, mod-lt, pow-suc, arith, lit<, pow-add}
 use Rattle.std.proofs.lemmas.List.{map-append}
 use Rattle.std.proofs.lemmas.Bool.Decides.{nat_tests as by_tests}
 use Rattle.monoid.specs.Monoid.{fold_of, all_bytes}
 use Rattle.zemor.specs.Bits.{digits_in, bits_in, is_one, text_bits, product_of}
 use Rattle.zemor.specs.Values.{sl2, row}
 use Rattle.zemor.specs.Peeling.{Tells, spelled}
-use Rattle.zemor.specs.Windows.{window_text, Short, ReadBack, Windowed}
+use Rattle.zemor.specs.Windows.{window_text, Short, Windowed}
 use Rattle.zemor.specs.declared.matrix.Sl2.{Sl2}
 use Rattle.zemor.specs.declared.peel.Bits.{Bits}
 use Rattle.zemor.specs.declared.window.Window.{Window}
@@ -51,7 +51,7 @@ module _ (x : Sl2) where
 
   pub window_odd : (s : Bits) → Tells x (Some s) → (s.len % 8 ≡ 0 → ⊥) → Windowed x None
   window_odd s p n w h e =
-      let long = ap length (p.3 (text_bits w) (few_bits w h) (bits_of w e)) ∙ length_bits s.word s.len in
+      let long = ap length (p.1 (text_bits w) (few_bits w h) (bits_of w e)) ∙ length_bits s.word s.len in
       n (omega (arith, length_text_bits w, long))
 
   pub window_some : (s : Bits) (r : Window) → Tells x (Some s) → s.len % 8 ≡ 0 → window_text r ≡ digits_in 256 s.word (s.len / 8) → Windowed x (Some r)
@@ -60,17 +60,8 @@ module _ (x : Sl2) where
       let cut : text_bits (window_text r) ≡ spelled s =
       ap text_bits is ∙ text_bits_in s.word n ∙ ap (bits_in s.word) (let t : 8 * n ≡ s.len = omega arith in t) in
       let bytes : all_bytes (window_text r) ≡ true = ap all_bytes is ∙ all_bytes_in s.word n in
-      let few : length (window_text r) ≤ 5 = omega (arith, ap length is, length_digits 256 (omega arith) s.word n, p.0) in (
+      let few : length (window_text r) ≤ 5 = omega (arith, ap length is, length_digits 256 (omega arith) s.word n, s.short) in (
         record { bytes = bytes; few = few },
-        same (fold_of sl2 (window_text r)) x (fold_product (window_text r) ∙ ap product_of cut ∙ p.2),
-        λ w h e. text_back w (window_text r) h.bytes bytes (p.3 (text_bits w) (few_bits w h) (bits_of w e) ∙ sym cut),
+        same (fold_of sl2 (window_text r)) x (fold_product (window_text r) ∙ ap product_of cut ∙ p.0),
+        λ w h e. text_back w (window_text r) h.bytes bytes (p.1 (text_bits w) (few_bits w h) (bits_of w e) ∙ sym cut),
       )
-
--- what stands between is told by what is left when both sides are taken off
-pub read : (front back x r : Sl2) → sl2.joined front (sl2.joined r back) ≡ x
-    → ((y : Sl2) → sl2.joined front (sl2.joined y back) ≡ x → y ≡ r) → (o : Option Window) → Windowed r o → ReadBack front back x o
-read front back x r solves only (Some s) p = (
-  record { short = p.0; whole = ap (λ y. sl2.joined front (sl2.joined y back)) p.1 ∙ solves },
-  λ w g. p.2 w g.short (only (fold_of sl2 w) g.whole),
-)
-read front back x r solves only None p = λ w g. p w g.short (only (fold_of sl2 w) g.whole)

@@ -1,9 +1,22 @@
 -- The written forms, read and written.
-use Rattle.std.proofs.Common.{◌≡◌, ℕ, zero, suc, ◌+◌, ◌*◌, ◌/◌, ◌%◌, ◌<◌, ◌≤◌, true, false, ◌&&◌, ltb, List, [], ◌∷◌, ◌++◌, length, get_or, take, drop, set, Some, None, Option, sym, refl, ap, ◌∙◌, append_assoc, mod-eq_of_lt, div-one, add-one, arith, length-set, drop-cons}
+use Rattle.std.proofs.Common.{◌≡◌, ℕ, zero, suc, ◌+◌, ◌*◌, ◌/◌, ◌%◌, ◌<◌, ◌≤◌, Bool, true, false, ◌&&◌, eqb, ltb, inl, inr, List, [], ◌∷◌, ◌++◌, length, get_or, take, drop, Some, None, Option, Result, Ok, Err, sym, refl, ap, ◌∙◌, mod-eq_of_lt, arith}
+use Rattle.std.specs.Prelude.{slice_index}
+use Rattle.std.specs.Char.{is_ascii_uppercase}
+use Rattle.std.specs.List.{list_any, AllPass}
+use Rattle.std.specs.Result.{result_ok}
 use Rattle.std.specs.Int.Digits.{number_from_digits, AllBelowBase}
-use Rattle.std.proofs.lemmas.List.{take_more, take_more_set, take_all, take-append-drop, drop-drop, length-take-le, length-drop}
-use Rattle.std.proofs.lemmas.Bool.{and_parts, and_from}
+use Rattle.std.proofs.lemmas.List.{take_all, take-append-drop, drop-drop, length-take-le, length-drop}
+use Rattle.std.proofs.lemmas.List.Elements.{All-head, All-tail}
+use Rattle.std.proofs.lemmas.Bool.{and_parts, and_from, cases_lt, eqb-true}
 use Rattle.std.proofs.lemmas.Bool.Decides.{nat_tests as by_tests}
+use Rattle.std.specs.Simd.{first_chunks}
+use Rattle.std.specs.Str.{IsAscii, IsUtf8}
+use Rattle.std.proofs.lemmas.Str.{IsUtf8-from_ascii}
+use Rattle.std.proofs.lemmas.Str.Ascii.{IsAscii-nil, IsAscii-cons}
+use Rattle.hex.specs.Hex.{lower_digits, encode_with, encode_lower, decode_pairs, decode_sized, hex_digit_value, is_hex_digit, digit_or_error, value_at, pair_value}
+use Rattle.hex.specs.declared.error.FromHexError.{FromHexError}
+use Rattle.hex.proofs.Pairs.{cons_byte, decode_pairs-ok_pair}
+use Rattle.hex.proofs.HexLemmas.{decode_of-even, decode_sized-twice, IsOk-decode_sized}
 use Rattle.residue.specs.Residue.{prime}
 use Rattle.monoid.specs.Monoid.{all_bytes}
 use Rattle.monoid.proofs.Folds.{all_bytes_append, all_bytes_take, all_bytes_drop}
@@ -22,9 +35,8 @@ number_back n h = number_digits 256 (omega arith) n 4 ∙ mod-eq_of_lt (omega ar
 
 pub entries_back : (x : Sl2) → entries_of (bytes_of (row x)) ≡ row x
 entries_back x =
-    let v = x.valid in
     four (entries_of (bytes_of (row x))) (row x)
-    (number_back x.a v.0.0) (number_back x.b v.0.1) (number_back x.c v.1.0.0) (number_back x.d v.1.0.1)
+    (number_back x.a.n x.a.low) (number_back x.b.n x.b.low) (number_back x.c.n x.c.low) (number_back x.d.n x.d.low)
 
 under_bytes : (bs : List ℕ) → all_bytes bs ≡ true → AllBelowBase 256 bs
 under_bytes [] h = tt
@@ -60,20 +72,33 @@ bytes_back bs h all =
     let q12 = q 12 (omega arith) in
     (λ i. q0 i ++ (q4 i ++ (q8 i ++ q12 i))) ∙ quarters bs h
 
--- the four bytes at a place
-pub four_at : (bs : List ℕ) (n : ℕ) → n + 4 ≤ length bs
-    → take 4 (drop n bs) ≡ get_or bs n 0 ∷ get_or bs (n + 1) 0 ∷ get_or bs (n + 2) 0 ∷ get_or bs (n + 3) 0 ∷ []
-four_at bs n h =
-    let next : (k m m' : ℕ) → m' ≡ m + 1 → m < length bs → take (suc k) (drop m bs) ≡ get_or bs m 0 ∷ take k (drop m' bs) =
-    λ k m m' e l. ap (take (suc k)) (drop-cons bs m 0 l) ∙ ap (λ j. get_or bs m 0 ∷ take k (drop j bs)) (sym (add-one m) ∙ sym e) in
-    next 3 n (n + 1) refl (omega arith)
-    ∙ ap (λ t. get_or bs n 0 ∷ t) (next 2 (n + 1) (n + 2) (omega arith) (omega arith))
-    ∙ ap (λ t. get_or bs n 0 ∷ get_or bs (n + 1) 0 ∷ t) (next 1 (n + 2) (n + 3) (omega arith) (omega arith))
-    ∙ ap (λ t. get_or bs n 0 ∷ get_or bs (n + 1) 0 ∷ get_or bs (n + 2) 0 ∷ t) (next 0 (n + 3) (n + 4) (omega arith) (omega arith))
+-- the numbers that sixteen bytes write, read four bytes at a time
+abbrev number_of : List ℕ → ℕ
+number_of xs = slice_index xs 0 * 16777216 + slice_index xs 1 * 65536 + slice_index xs 2 * 256 + slice_index xs 3
 
--- the four bytes of a number
-pub four_digits : (x : ℕ) → (x / 16777216 % 256 ∷ x / 65536 % 256 ∷ x / 256 % 256 ∷ x % 256 ∷ []) ≡ digits_in 256 x 4
-four_digits x = ap (λ k. x / 16777216 % 256 ∷ x / 65536 % 256 ∷ x / 256 % 256 ∷ k % 256 ∷ []) (sym (div-one x))
+number_is : (xs : List ℕ) → length xs ≡ 4 → number_of xs ≡ number_from_digits 256 xs
+number_is [] h = absurd (omega arith)
+number_is (a ∷ []) h = absurd (omega arith)
+number_is (a ∷ b ∷ []) h = absurd (omega arith)
+number_is (a ∷ b ∷ c ∷ []) h = absurd (omega arith)
+number_is (a ∷ b ∷ c ∷ d ∷ []) h = omega arith
+number_is (a ∷ b ∷ c ∷ d ∷ e ∷ xs) h = absurd (omega arith)
+
+pub entries_read : (bs : List ℕ) (chunks : List (List ℕ)) (e : Entries) → length bs ≡ 16 → chunks ≡ first_chunks 4 (length bs / 4) bs
+    → e.a ≡ number_of (get_or chunks 0 []) → e.b ≡ number_of (get_or chunks 1 []) → e.c ≡ number_of (get_or chunks 2 []) → e.d ≡ number_of (get_or chunks 3 [])
+    → e ≡ entries_of bs
+entries_read bs chunks e h is ea eb ec ed =
+    let d8 : drop 4 (drop 4 bs) ≡ drop 8 bs = drop-drop 4 4 bs in
+    let d12 : drop 4 (drop 4 (drop 4 bs)) ≡ drop 12 bs = drop-drop 4 4 (drop 4 bs) ∙ drop-drop 8 4 bs in
+    let four_of : chunks ≡ (take 4 bs ∷ take 4 (drop 4 bs) ∷ take 4 (drop 8 bs) ∷ take 4 (drop 12 bs) ∷ []) =
+    is ∙ ap (λ k. first_chunks 4 (k / 4) bs) h ∙ (λ i. take 4 bs ∷ take 4 (drop 4 bs) ∷ take 4 (d8 i) ∷ take 4 (d12 i) ∷ []) in
+    let number : (n : ℕ) → n + 4 ≤ length bs → number_of (take 4 (drop n bs)) ≡ number_from_digits 256 (take 4 (drop n bs)) =
+    λ n l. number_is (take 4 (drop n bs)) (length-take-le 4 (drop n bs) (simp length-drop (omega arith))) in
+    four e (entries_of bs)
+    (ea ∙ ap (λ xs. number_of (get_or xs 0 [])) four_of ∙ number 0 (omega arith))
+    (eb ∙ ap (λ xs. number_of (get_or xs 1 [])) four_of ∙ number 4 (omega arith))
+    (ec ∙ ap (λ xs. number_of (get_or xs 2 [])) four_of ∙ number 8 (omega arith))
+    (ed ∙ ap (λ xs. number_of (get_or xs 3 [])) four_of ∙ number 12 (omega arith))
 
 pub all_bytes_of : (e : Entries) → all_bytes (bytes_of e) ≡ true
 all_bytes_of e =
@@ -135,60 +160,84 @@ hex_unhex (suc n) (c ∷ (d ∷ cs)) h all =
     ∙ ap (λ k. c ∷ k ∷ hex (unhex cs)) (value_back d hd)
     ∙ ap (λ t. c ∷ d ∷ t) (hex_unhex n cs (omega arith) (and_parts (is_hex d) (all_hex cs) rest).1)
 
-pub hex_push : (bs : List ℕ) (k : ℕ) → hex (bs ++ (k ∷ [])) ≡ hex bs ++ (hex_digit (k / 16) ∷ hex_digit (k % 16) ∷ [])
-hex_push [] k = refl
-hex_push (b ∷ bs) k = ap (λ t. hex_digit (b / 16) ∷ hex_digit (b % 16) ∷ t) (hex_push bs k)
+-- the digits that the library writes
+same_digits : ℕ → Bool
+same_digits zero = true
+same_digits (suc n) = eqb (slice_index lower_digits n) (hex_digit n) && same_digits n
 
-pub unhex_push : (n : ℕ) (text : List ℕ) (c d : ℕ) → length text ≡ 2 * n → unhex (text ++ (c ∷ d ∷ [])) ≡ unhex text ++ ((16 * hex_value c + hex_value d) ∷ [])
-unhex_push zero [] c d h = refl
-unhex_push zero (x ∷ xs) c d h = absurd (omega arith)
-unhex_push (suc n) [] c d h = absurd (omega arith)
-unhex_push (suc n) (x ∷ []) c d h = absurd (omega arith)
-unhex_push (suc n) (x ∷ (y ∷ xs)) c d h = ap (λ t. (16 * hex_value x + hex_value y) ∷ t) (unhex_push n xs c d (omega arith))
+same_below : (n k : ℕ) → same_digits n ≡ true → k < n → slice_index lower_digits k ≡ hex_digit k
+unfolding same_digits
+same_below zero k h low = absurd (omega arith)
+same_below (suc n) k h low =
+    let parts = and_parts (eqb (slice_index lower_digits n) (hex_digit n)) (same_digits n) h in
+    elim (cases_lt k n) [
+      | inl below ↦ same_below n k parts.1 below
+      | inr top ↦ let e : k ≡ n = omega arith in rw e (eqb-true _ _ parts.0)
+    ]
 
-two_more : (text : List ℕ) (i : ℕ) → 2 * i + 1 < length text → take (2 * (i + 1)) text ≡ take (2 * i) text ++ (get_or text (2 * i) 0 ∷ get_or text (2 * i + 1) 0 ∷ [])
-two_more text i h =
-    ap (λ n. take n text) (let t : 2 * (i + 1) ≡ 2 * i + 1 + 1 = omega arith in t) ∙ take_more text (2 * i + 1) 0 h
-    ∙ ap (λ t. t ++ (get_or text (2 * i + 1) 0 ∷ [])) (take_more text (2 * i) 0 (omega arith))
-    ∙ append_assoc (take (2 * i) text) (get_or text (2 * i) 0 ∷ []) (get_or text (2 * i + 1) 0 ∷ [])
+lower_digit : (k : ℕ) → k < 16 → slice_index lower_digits k ≡ hex_digit k
+unfolding same_digits
+lower_digit k h = same_below 16 k refl h
 
--- the digits of one byte more
-pub hex_more : (bs text : List ℕ) (i : ℕ) → i < length bs → 2 * i + 1 < length text → take (2 * i) text ≡ hex (take i bs)
-    → take (2 * (i + 1)) (set (set text (2 * i) (hex_digit (get_or bs i 0 / 16))) (2 * i + 1) (hex_digit (get_or bs i 0 % 16))) ≡ hex (take (i + 1) bs)
-hex_more bs text i h room e =
-    let k = get_or bs i 0 in
-    let x = hex_digit (k / 16) in
-    let y = hex_digit (k % 16) in
-    ap (λ n. take n (set (set text (2 * i) x) (2 * i + 1) y)) (let t : 2 * (i + 1) ≡ 2 * i + 1 + 1 = omega arith in t)
-    ∙ take_more_set (set text (2 * i) x) (2 * i + 1) y (simp length-set (omega arith))
-    ∙ ap (λ t. t ++ (y ∷ [])) (take_more_set text (2 * i) x (omega arith)) ∙ append_assoc (take (2 * i) text) (x ∷ []) (y ∷ [])
-    ∙ ap (λ t. t ++ (x ∷ y ∷ [])) e ∙ sym (hex_push (take i bs) k) ∙ ap hex (sym (take_more bs i 0 h))
+pub encoded : (bs : List ℕ) → all_bytes bs ≡ true → encode_lower bs ≡ hex bs
+unfolding encode_with
+encoded [] h = refl
+encoded (k ∷ ks) h =
+    let low : k < 256 = grind (arith, by_tests) in
+    let x = lower_digit (k / 16) (omega arith) in
+    let y = lower_digit (k % 16) (omega arith) in
+    let rest = encoded ks (and_parts (ltb k 256) (all_bytes ks) h).1 in
+    λ i. x i ∷ y i ∷ rest i
 
--- the byte of two digits more
-pub unhex_more : (bs text : List ℕ) (i : ℕ) → i < length bs → 2 * i + 1 < length text → take i bs ≡ unhex (take (2 * i) text)
-    → take (i + 1) (set bs i (16 * hex_value (get_or text (2 * i) 0) + hex_value (get_or text (2 * i + 1) 0))) ≡ unhex (take (2 * (i + 1)) text)
-unhex_more bs text i h room e =
-    let v = 16 * hex_value (get_or text (2 * i) 0) + hex_value (get_or text (2 * i + 1) 0) in
-    take_more_set bs i v h ∙ ap (λ t. t ++ (v ∷ [])) e
-    ∙ sym (unhex_push i (take (2 * i) text) (get_or text (2 * i) 0) (get_or text (2 * i + 1) 0) (length-take-le (2 * i) text (omega arith)))
-    ∙ ap unhex (sym (two_more text i room))
+-- what the library reads
+digit_read : (c : ℕ) → is_hex c ≡ true → hex_digit_value c ≡ Some (hex_value c)
+digit_read c h = grind (arith, by_tests)
 
-all_hex_append : (u v : List ℕ) → all_hex u ≡ true → all_hex v ≡ true → all_hex (u ++ v) ≡ true
-all_hex_append [] v hu hv = hv
-all_hex_append (c ∷ u) v hu hv = and_from _ _ (and_parts (is_hex c) (all_hex u) hu).0 (all_hex_append u v (and_parts (is_hex c) (all_hex u) hu).1 hv)
+pairs_read : (i n : ℕ) (text : List ℕ) → length text ≡ 2 * n → all_hex text ≡ true → decode_pairs i text ≡ Ok (unhex text)
+unfolding decode_pairs
+pairs_read i zero [] h all = refl
+pairs_read i zero (c ∷ cs) h all = absurd (omega arith)
+pairs_read i (suc n) [] h all = absurd (omega arith)
+pairs_read i (suc n) (c ∷ []) h all = absurd (omega arith)
+pairs_read i (suc n) (c ∷ (d ∷ cs)) h all =
+    let first = and_parts (is_hex c) (is_hex d && all_hex cs) all in
+    let second = and_parts (is_hex d) (all_hex cs) first.1 in
+    let high : value_at c i ≡ Ok (hex_value c) = ap (digit_or_error c i) (digit_read c first.0) in
+    let low : value_at d (i + 1) ≡ Ok (hex_value d) = ap (digit_or_error d (i + 1)) (digit_read d second.0) in
+    let pair : pair_value c d i ≡ Ok (hex_value c * 16 + hex_value d) = rw (high, low) refl in
+    let byte : hex_value c * 16 + hex_value d ≡ 16 * hex_value c + hex_value d = omega arith in
+    decode_pairs-ok_pair i c d _ cs pair ∙ ap (cons_byte (hex_value c * 16 + hex_value d)) (pairs_read (i + 2) n cs (omega arith) second.1)
+    ∙ ap (λ (v : ℕ). Ok (v ∷ unhex cs)) byte
 
-pub all_hex_more : (text : List ℕ) (i : ℕ) → 2 * i + 1 < length text → all_hex (take (2 * i) text) ≡ true
-    → is_hex (get_or text (2 * i) 0) ≡ true → is_hex (get_or text (2 * i + 1) 0) ≡ true → all_hex (take (2 * (i + 1)) text) ≡ true
-all_hex_more text i room all h k =
-    let c = get_or text (2 * i) 0 in
-    let d = get_or text (2 * i + 1) 0 in
-    ap all_hex (two_more text i room) ∙ all_hex_append (take (2 * i) text) (c ∷ d ∷ []) all (and_from (is_hex c) (is_hex d && true) h (and_from (is_hex d) true k refl))
+lower_or_upper : (c : ℕ) → is_hex_digit c ≡ true → is_ascii_uppercase c ≡ false → is_hex c ≡ true
+lower_or_upper c h none = grind (arith, by_tests)
 
--- a text with one that is no digit
-pub not_all_hex : (text : List ℕ) (i : ℕ) → i < length text → is_hex (get_or text i 0) ≡ false → all_hex text ≡ true → ⊥
-not_all_hex [] i h none all = omega arith
-not_all_hex (c ∷ cs) zero h none all = let e = (and_parts (is_hex c) (all_hex cs) all).0 in let z : ◌≡◌ {A = ℕ} 0 1 = cc in omega arith
-not_all_hex (c ∷ cs) (suc i) h none all = not_all_hex cs i (omega arith) none (and_parts (is_hex c) (all_hex cs) all).1
+all_lower : (text : List ℕ) → AllPass is_hex_digit text → list_any is_ascii_uppercase text ≡ false → all_hex text ≡ true
+all_lower [] all none = refl
+all_lower (c ∷ cs) all none =
+    let first : is_ascii_uppercase c ≡ false = grind (arith, by_tests) in
+    let rest : list_any is_ascii_uppercase cs ≡ false = grind (arith, by_tests) in
+    and_from (is_hex c) (all_hex cs) (lower_or_upper c (All-head (λ d. is_hex_digit d ≡ true) c cs all) first)
+    (all_lower cs (All-tail (λ d. is_hex_digit d ≡ true) c cs all) rest)
+
+pub no_upper : (text : List ℕ) → all_hex text ≡ true → list_any is_ascii_uppercase text ≡ false
+no_upper [] all = refl
+no_upper (c ∷ cs) all =
+    let parts = and_parts (is_hex c) (all_hex cs) all in
+    let digit = parts.0 in
+    let first : is_ascii_uppercase c ≡ false = grind (arith, by_tests) in
+    rw first (no_upper cs parts.1)
+
+text_read : (text : List ℕ) → length text ≡ 32 → all_hex text ≡ true → decode_sized text 16 ≡ Ok (unhex text)
+text_read text h all = decode_sized-twice text 16 h ∙ decode_of-even text (omega arith) ∙ pairs_read 0 16 text h all
+
+pub decoded : (text : List ℕ) (r : Result (List ℕ) FromHexError) → r ≡ decode_sized text 16 → list_any is_ascii_uppercase text ≡ false → Decoded text (result_ok r)
+decoded text (Ok bs) is none =
+    let found = (IsOk-decode_sized text 16).0 (rw (sym is) refl) in
+    let all = all_lower text found.1 none in
+    let same : ◌≡◌ {A = Result (List ℕ) FromHexError} (Ok bs) (Ok (unhex text)) = is ∙ text_read text found.0 all in
+    (found.0, all, cc same)
+decoded text (Err e) is none = λ h. let same = is ∙ text_read text h.0 h.1 in cc same
 
 pub hex_back : (x : Sl2) → WellFormed (hex (bytes_of (row x))) × (entries_of (unhex (hex (bytes_of (row x)))) ≡ row x)
 hex_back x =
@@ -206,15 +255,14 @@ read_hex text bs (Some x) d r =
     )
 read_hex text bs None d r = λ w. r (rw d.2 w.1.1)
 
--- a list of n is its n first
-whole_take : {A : Type 0} (xs : List A) (n i : ℕ) → length xs ≡ n → n ≤ i → take i xs ≡ xs
-whole_take xs n i h k = take_all i xs (omega arith)
+digit_ascii : (k : ℕ) → k < 16 → hex_digit k < 128
+digit_ascii k h = grind (arith, by_tests)
 
-pub hex_done : (bs text : List ℕ) (i : ℕ) → 16 ≤ i → length bs ≡ 16 → length text ≡ 32 → take (2 * i) text ≡ hex (take i bs) → text ≡ hex bs
-hex_done bs text i h hb ht e = sym (whole_take text 32 (2 * i) ht (omega arith)) ∙ e ∙ ap hex (whole_take bs 16 i hb h)
+hex_ascii : (bs : List ℕ) → all_bytes bs ≡ true → IsAscii (hex bs)
+hex_ascii [] h = IsAscii-nil
+hex_ascii (k ∷ ks) h =
+    let low : k < 256 = grind (arith, by_tests) in
+    IsAscii-cons _ (hex_digit (k % 16) ∷ hex ks) (digit_ascii (k / 16) (omega arith)) (IsAscii-cons _ (hex ks) (digit_ascii (k % 16) (omega arith)) (hex_ascii ks (and_parts (ltb k 256) (all_bytes ks) h).1))
 
-pub unhex_done : (bs text : List ℕ) (i : ℕ) → 16 ≤ i → length bs ≡ 16 → length text ≡ 32 → take i bs ≡ unhex (take (2 * i) text)
-    → all_hex (take (2 * i) text) ≡ true → (all_hex text ≡ true) × (bs ≡ unhex text)
-unhex_done bs text i h hb ht e all =
-    let whole = whole_take text 32 (2 * i) ht (omega arith) in
-    (ap all_hex (sym whole) ∙ all, sym (whole_take bs 16 i hb h) ∙ e ∙ ap unhex whole)
+pub hex_text : (x : Sl2) → IsUtf8 (hex (bytes_of (row x)))
+hex_text x = IsUtf8-from_ascii _ (hex_ascii (bytes_of (row x)) (all_bytes_of (row x)))

@@ -2,8 +2,7 @@
 use Rattle.std.specs.Prelude.{◌≡◌, ℕ, List, [], ◌∷◌}
 use Rattle.monoid.specs.Monoid.{fold_of}
 use Rattle.monoid.specs.KarpRabinValues.{karp_rabin_model}
-use Rattle.monoid.specs.LineColumn.{lines_columns}
-use Rattle.monoid.specs.LineColumnValues as lines
+use Rattle.monoid.specs.LineColumnValues.{line_column_model, numbers}
 use Rattle.zemor.specs.Matrix.{matrix}
 use Rattle.zemor.specs.Values.{sl2, row}
 use Rattle.zemor.specs.declared.matrix.Entries.{Entries}
@@ -20,5 +19,5 @@ Figures =
     × (entries (98 ∷ 97 ∷ []) ≡ matrix 461 376 320 261)
     × (entries (97 ∷ 97 ∷ []) ≡ matrix 399 325 275 224)
     × (entries (85 ∷ 85 ∷ 85 ∷ 85 ∷ 85 ∷ []) ≡ matrix 165580141 102334155 102334155 63245986)
-    × ((fold_of karp_rabin_model (97 ∷ 98 ∷ [])).h ≡ 1647185)
-    × (lines.row (fold_of lines.line_column_model (97 ∷ 10 ∷ 98 ∷ [])) ≡ lines_columns 1 1)
+    × ((fold_of karp_rabin_model (97 ∷ 98 ∷ [])).h.n ≡ 1647185)
+    × (numbers (fold_of line_column_model (97 ∷ 10 ∷ 98 ∷ [])) ≡ (1, 1))

@@ -1,15 +1,16 @@
 -- The laws of the product and the inverse.
-use Rattle.std.specs.Prelude.{◌≡◌, ℕ, ◌+◌, ◌*◌, ◌%◌, ◌<◌}
-use Rattle.std.proofs.Common.{ap, ◌∙◌, mod-eq_of_lt, arith}
+use Rattle.std.specs.Prelude.{◌≡◌, ℕ, ◌+◌, ◌*◌, ◌%◌, ◌<◌, Some, None, Option, unwrap_or}
+use Rattle.std.proofs.Common.{ap, ◌∙◌, arith}
 use mathlib.Core.HLevel.{×_prop}
 use Rattle.std.proofs.Math.Nat.{ℕ_set}
 use Rattle.std.proofs.Math.Bridge.{le_prop}
 use Rattle.residue.specs.Residue.{prime, minus}
+use Rattle.residue.proofs.Bounds.{stays}
 use Rattle.residue.proofs.Modulo.{dot_dot, cancels, comes_to_one}
 use Rattle.monoid.specs.Monoid.{Lawful, Inverse}
-use Rattle.monoid.specs.ValuesLemmas.{same_value, checked_valid, checked_none}
+use Rattle.monoid.specs.ValuesLemmas.{same_value, checked_valid, checked_none, checked_or}
 use Rattle.zemor.specs.Matrix.{matrix, times}
-use Rattle.zemor.specs.Values.{Valid, value, row, valid_dec, one, sl2, inverse_of}
+use Rattle.zemor.specs.Values.{Valid, value, row, row_valid, valid_dec, one, sl2, inverse_of, Checked}
 use Rattle.zemor.specs.declared.matrix.Sl2.{Sl2}
 use Rattle.zemor.specs.declared.matrix.Entries.{Entries}
 
@@ -22,25 +23,28 @@ valid_prop e = ×_prop (×_prop le_prop le_prop) (×_prop (×_prop le_prop le_pr
 
 -- values with equal entries are equal
 pub same : (x y : Sl2) → row x ≡ row y → x ≡ y
-same x y e = same_value valid_prop value x.valid y.valid e
+same x y e = same_value valid_prop value (row_valid x) (row_valid y) e
 
 -- entries equal to those of a value meet its conditions
 pub like : (x : Sl2) (e : Entries) → e ≡ row x → Valid e
-like x e h = rw h x.valid
+like x e h = rw h (row_valid x)
 
 pub told : (x : Sl2) → sl2.value (row x) ≡ x
-told x = checked_valid valid_prop value one (row x) (valid_dec (row x)) x.valid
+told x = checked_valid valid_prop value one (row x) (valid_dec (row x)) (row_valid x)
 
 pub told_none : (e : Entries) → ¬ (Valid e) → sl2.value e ≡ one
 told_none e n = checked_none valid_prop value one e (valid_dec e) n
 
+-- the value with these entries, or else one
+pub told_or : (e : Entries) (o : Option Sl2) → Checked e o → unwrap_or o one ≡ sl2.value e
+told_or e (Some x) h = checked_or valid_prop value one row valid_dec told e (Some x) h
+told_or e None n = checked_or valid_prop value one row valid_dec told e None n
+
 -- entries below p are their own remainders
-low : (x : Sl2) (e : Entries) → e.a ≡ x.a → e.b ≡ x.b → e.c ≡ x.c → e.d ≡ x.d
+low : (x : Sl2) (e : Entries) → e.a ≡ x.a.n → e.b ≡ x.b.n → e.c ≡ x.c.n → e.d ≡ x.d.n
     → matrix (e.a % prime) (e.b % prime) (e.c % prime) (e.d % prime) ≡ row x
 low x e ea eb ec ed =
-    let v = x.valid in
-    let stays : (n k : ℕ) → n ≡ k → k < prime → n % prime ≡ k = λ n k h l. ap (λ m. m % prime) h ∙ mod-eq_of_lt l in
-    four _ (row x) (stays _ _ ea v.0.0) (stays _ _ eb v.0.1) (stays _ _ ec v.1.0.0) (stays _ _ ed v.1.0.1)
+    four _ (row x) (stays _ _ ea x.a.low) (stays _ _ eb x.b.low) (stays _ _ ec x.c.low) (stays _ _ ed x.d.low)
 
 pub times_assoc : (x y z : Entries) → times (times x y) z ≡ times x (times y z)
 times_assoc x y z =
@@ -71,26 +75,26 @@ one_by : (n x b c : ℕ) → n ≡ x + minus c * b → c < prime → x % prime �
 one_by n x b c e h d = ap (λ k. k % prime) e ∙ comes_to_one prime x b c h d
 
 -- the determinant with b and c the other way round
-turned : (x : Sl2) → (x.a * x.d) % prime ≡ (x.c * x.b + 1) % prime
-turned x = x.valid.1.1 ∙ ap (λ n. n % prime) (omega arith)
+turned : (x : Sl2) → (x.a.n * x.d.n) % prime ≡ (x.c.n * x.b.n + 1) % prime
+turned x = x.valid ∙ ap (λ n. n % prime) (omega arith)
 
 after_entries : (x : Sl2) → times (row x) (row (inverse_of x)) ≡ row one
 after_entries x =
-    let v = x.valid in
+    let e = row x in
     four _ (row one)
-    (one_by _ (x.a * x.d) x.b x.c (omega arith) v.1.0.0 v.1.1)
-    (zero_by _ x.a x.b (omega arith) v.0.1)
-    (zero_by _ x.d x.c (omega arith) v.1.0.0)
-    (one_by _ (x.a * x.d) x.c x.b (omega arith) v.0.1 (turned x))
+    (one_by _ (e.a * e.d) e.b e.c (omega arith) x.c.low x.valid)
+    (zero_by _ e.a e.b (omega arith) x.b.low)
+    (zero_by _ e.d e.c (omega arith) x.c.low)
+    (one_by _ (e.a * e.d) e.c e.b (omega arith) x.b.low (turned x))
 
 before_entries : (x : Sl2) → times (row (inverse_of x)) (row x) ≡ row one
 before_entries x =
-    let v = x.valid in
+    let e = row x in
     four _ (row one)
-    (one_by _ (x.a * x.d) x.c x.b (omega arith) v.0.1 (turned x))
-    (zero_by _ x.d x.b (omega arith) v.0.1)
-    (zero_by _ x.a x.c (omega arith) v.1.0.0)
-    (one_by _ (x.a * x.d) x.b x.c (omega arith) v.1.0.0 v.1.1)
+    (one_by _ (e.a * e.d) e.c e.b (omega arith) x.b.low (turned x))
+    (zero_by _ e.d e.b (omega arith) x.b.low)
+    (zero_by _ e.a e.c (omega arith) x.c.low)
+    (one_by _ (e.a * e.d) e.b e.c (omega arith) x.c.low x.valid)
 
 pub inverts : Inverse sl2 inverse_of
 inverts = record { after = λ x. same _ one (after_entries x); before = λ x. same _ one (before_entries x) }

@@ -1,5 +1,5 @@
 -- Matrices [a b; c d] modulo p = 2^31 - 1.
-use Rattle.std.specs.Prelude.{ℕ, zero, suc, Bool, true, false}
+use Rattle.std.specs.Prelude.{ℕ, Bool, true, false}
 use Rattle.residue.specs.Residue.{dot, minus}
 use Rattle.zemor.specs.declared.matrix.Entries.{Entries}
 
@@ -23,10 +23,3 @@ inverse x = matrix x.d (minus x.b) (minus x.c) x.a
 abbrev pub bit : Bool → Entries
 bit false = matrix 1 1 0 1
 bit true = matrix 1 0 1 1
-
--- the entry j of a matrix, of its four in order
-abbrev pub entry : ℕ → Entries → ℕ
-entry zero x = x.a
-entry (suc zero) x = x.b
-entry (suc (suc zero)) x = x.c
-entry (suc (suc (suc j))) x = x.d

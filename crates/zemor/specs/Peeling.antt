@@ -1,5 +1,5 @@
 -- Telling the string of bits that a matrix is the product of.
-use Rattle.std.specs.Prelude.{◌≡◌, ◌^◌, ◌<◌, ◌≤◌, Bool, List, ◌∷◌, length, Some, None, Option, ◌≢◌}
+use Rattle.std.specs.Prelude.{◌≡◌, ◌≤◌, Bool, List, ◌∷◌, length, Some, None, Option, ◌≢◌}
 use Rattle.zemor.specs.Matrix.{bit}
 use Rattle.zemor.specs.Bits.{bits_in, product_of}
 use Rattle.zemor.specs.Values.{row}
@@ -12,18 +12,15 @@ use Rattle.zemor.specs.declared.peel.Bits.{Bits}
 abbrev pub spelled : Bits → List Bool
 spelled s = bits_in s.word s.len
 
--- the answer is the one string of at most 45 bits whose product is x, with no bit of the word beyond it; or there is
--- no such string
+-- the answer is the one string of at most 45 bits whose product is x; or there is no such string
 abbrev pub Tells : Sl2 → Option Bits → Type 0
 Tells x (Some s) =
-    (s.len ≤ 45) × (s.word < 2 ^ s.len) × (product_of (spelled s) ≡ row x)
-    × ((w : List Bool) → length w ≤ 45 → product_of w ≡ row x → w ≡ spelled s)
+    (product_of (spelled s) ≡ row x) × ((w : List Bool) → length w ≤ 45 → product_of w ≡ row x → w ≡ spelled s)
 Tells x None = (w : List Bool) → length w ≤ 45 → product_of w ≢ row x
 
 -- the same over whole numbers
 abbrev pub Peels : Entries → Option Bits → Type 0
-Peels m (Some s) =
-    (s.len ≤ 45) × (s.word < 2 ^ s.len) × (whole (spelled s) ≡ m) × ((w : List Bool) → whole w ≡ m → w ≡ spelled s)
+Peels m (Some s) = (whole (spelled s) ≡ m) × ((w : List Bool) → whole w ≡ m → w ≡ spelled s)
 Peels m None = (w : List Bool) → length w ≤ 45 → whole w ≢ m
 
 -- the first bit of every string whose product over whole numbers is m, and the product of its other bits

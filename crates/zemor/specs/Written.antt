@@ -1,5 +1,5 @@
 -- The written forms of a fingerprint.
-use Rattle.std.specs.Prelude.{◌≡◌, ℕ, ◌+◌, ◌-◌, ◌*◌, ◌/◌, ◌%◌, Bool, true, false, cond, ◌&&◌, ◌||◌, List, [], ◌∷◌, ◌++◌, length, take, drop, Some, None, Option, nat_le, nat_lt}
+use Rattle.std.specs.Prelude.{◌≡◌, ℕ, ◌+◌, ◌-◌, ◌*◌, ◌/◌, ◌%◌, Bool, true, cond, ◌&&◌, ◌||◌, List, [], ◌∷◌, ◌++◌, length, take, drop, Some, None, Option, nat_le, nat_lt}
 use Rattle.std.specs.Int.Digits.{number_from_digits}
 use Rattle.zemor.specs.Matrix.{matrix}
 use Rattle.zemor.specs.Bits.{digits_in}
@@ -53,11 +53,6 @@ ReadBytes bs None = ¬ (Valid (entries_of bs))
 abbrev pub ReadHex : List ℕ → Option Sl2 → Type 0
 ReadHex text (Some x) = WellFormed text × (row x ≡ entries_of (unhex text)) × (hex (bytes_of (row x)) ≡ text)
 ReadHex text None = ¬ (WellFormed text)
-
--- what one digit writes, if it is one
-abbrev pub HexValue : ℕ → Option ℕ → Type 0
-HexValue c (Some k) = (is_hex c ≡ true) × (k ≡ hex_value c)
-HexValue c None = is_hex c ≡ false
 
 -- the bytes that 32 digits write, if they are digits
 abbrev pub Decoded : List ℕ → Option (List ℕ) → Type 0

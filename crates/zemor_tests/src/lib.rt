@@ -9,13 +9,6 @@ mod tests {
     use zemor::text::fingerprint;
     use zemor::window::ops::read_back;
 
-    const IDENTITY: Entries = Entries {
-        a: 1,
-        b: 0,
-        c: 0,
-        d: 1,
-    };
-
     const AA: Entries = Entries {
         a: 399,
         b: 325,
@@ -23,15 +16,14 @@ mod tests {
         d: 224,
     };
 
+    // The library keeps p to itself, and a test writes its numbers out.
     const P: u32 = 2147483647;
 
     // Whether reading back between `front` and `back` tells just `window`.
     fn tells(front: &[u8], wanted: Entries, back: &[u8], window: &[u8]) -> bool {
         let whole = Sl2::from_row(wanted);
-        match read_back(fingerprint(front), whole, fingerprint(back)) {
-            Some(w) => w.as_slice() == window,
-            None => false,
-        }
+        let told = read_back(fingerprint(front), whole, fingerprint(back));
+        told.is_some_and(|w| w.as_slice() == window)
     }
 
     // Whether reading back between `front` and `back` finds no window.
@@ -40,16 +32,13 @@ mod tests {
         read_back(fingerprint(front), whole, fingerprint(back)).is_none()
     }
 
-    // The word and the length of the bits that are told, or (0, 99) for none.
-    fn peeled(e: Entries) -> (u64, u32) {
-        match peel(Sl2::from_row(e)) {
-            Some(s) => (s.word, s.len),
-            None => (0, 99),
-        }
+    // The word and the length of the bits that are told.
+    fn peeled(e: Entries) -> Option<(u64, u32)> {
+        peel(Sl2::from_row(e)).map(|s| (s.word, s.len))
     }
 
     fn read(text: &[u8]) -> Option<Entries> {
-        Some(Sl2::from_hex(text)?.to_row())
+        Sl2::from_hex(text).map(|x| x.to_row())
     }
 
     #[test]
@@ -59,11 +48,11 @@ mod tests {
             "the second byte of ab was written as a"
         );
         assert!(rt;
-            tells(b"", IDENTITY, b"", b""),
+            tells(b"", Entries::IDENTITY, b"", b""),
             "the whole of ab was taken away"
         );
         assert!(rt;
-            tells_none(b"a", IDENTITY, b""),
+            tells_none(b"a", Entries::IDENTITY, b""),
             "no window undoes the first byte"
         );
         assert!(rt;
@@ -79,15 +68,15 @@ mod tests {
 
     #[test]
     fn peels(rt: HostRuntime) {
-        assert_eq!(rt; peeled(IDENTITY), (0, 0));
+        assert_eq!(rt; peeled(Entries::IDENTITY), Some((0, 0)));
         let bit_one = Entries {
             a: 1,
             b: 0,
             c: 1,
             d: 1,
         };
-        assert_eq!(rt; peeled(bit_one), (1, 1));
-        assert_eq!(rt; peeled(AA), (97 * 256 + 97, 16));
+        assert_eq!(rt; peeled(bit_one), Some((1, 1)));
+        assert_eq!(rt; peeled(AA), Some((97 * 256 + 97, 16)));
     }
 
     #[test]

@@ -1,12 +1,11 @@
-ghost use Rattle.monoid.specs.KarpRabinValues.{karp_rabin_model, inverse_of, Valid as ValidRow};
-ghost use Rattle.std.specs.Prelude.{MatchBool};
+ghost use Rattle.monoid.specs.KarpRabinValues.{karp_rabin_model, inverse_of, row as row_of, Valid as ValidRow};
+ghost use Rattle.std.specs.Prelude.{◌≡◌, MatchOption};
 ghost use Rattle.monoid.specs.KarpRabinLaws;
 
 use super::{KarpRabin, KarpRabinRow};
 use crate::{Group, Monoid};
-use residue::{multiply, multiply_add, negate};
+use residue::Residue;
 
-const P: u32 = 2147483647;
 // The base, and its inverse modulo p.
 const BASE: u32 = 16807;
 
@@ -20,42 +19,39 @@ impl Monoid for KarpRabin {
     ghost lawful = { KarpRabinLaws.lawful };
 
     fn empty() -> KarpRabin {
-        KarpRabin { h: 0, w: 1, v: 1 }
+        KarpRabin {
+            h: Residue::ZERO,
+            w: Residue::ONE,
+            v: Residue::ONE,
+        }
     }
 
     fn of_byte(byte: u8) -> KarpRabin {
         KarpRabin {
-            h: byte as u32 + 1,
-            w: BASE,
-            v: BASE_INVERSE,
+            h: Residue::new(byte as u32 + 1),
+            w: Residue::new(BASE),
+            v: Residue::new(BASE_INVERSE),
         }
     }
 
     fn join(self, other: KarpRabin) -> KarpRabin {
         KarpRabin {
-            h: multiply_add(self.h, other.w, other.h),
-            w: multiply(self.w, other.w),
-            v: multiply(self.v, other.v),
+            h: self.h.multiply_add(other.w, other.h),
+            w: self.w * other.w,
+            v: self.v * other.v,
         }
     }
 
     fn to_row(self) -> KarpRabinRow {
         KarpRabinRow {
-            h: self.h,
-            w: self.w,
-            v: self.v,
+            h: self.h.get(),
+            w: self.w.get(),
+            v: self.v.get(),
         }
     }
 
     fn from_row(row: KarpRabinRow) -> KarpRabin {
-        if !is_valid(row) {
-            return KarpRabin { h: 0, w: 1, v: 1 };
-        }
-        KarpRabin {
-            h: row.h,
-            w: row.w,
-            v: row.v,
-        }
+        checked(row).unwrap_or(KarpRabin::empty())
     }
 }
 
@@ -66,16 +62,22 @@ impl Group for KarpRabin {
 
     fn inverse(self) -> KarpRabin {
         KarpRabin {
-            h: multiply(negate(self.h), self.v),
+            h: -self.h * self.v,
             w: self.v,
             v: self.w,
         }
     }
 }
 
-/// Whether the row is a value's.
-fn is_valid(row: KarpRabinRow) -> bool
-    ensures { MatchBool result (ValidRow row) (¬ (ValidRow row)) }
+/// The value of a row, if there is one. An `Option` and no `TryFrom`, whose error would say no more.
+fn checked(row: KarpRabinRow) -> Option<KarpRabin>
+    ensures { MatchOption result (¬ (ValidRow row)) (λ x. row_of x ≡ row) }
 {
-    row.h < P && row.w < P && row.v < P && multiply(row.w, row.v) == 1
+    let h = Residue::try_from(row.h).ok()?;
+    let w = Residue::try_from(row.w).ok()?;
+    let v = Residue::try_from(row.v).ok()?;
+    if w * v != Residue::ONE {
+        return None;
+    }
+    Some(KarpRabin { h, w, v })
 }

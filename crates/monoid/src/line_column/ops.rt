@@ -1,11 +1,11 @@
 ghost use Rattle.monoid.specs.LineColumnValues.{line_column_model};
 ghost use Rattle.monoid.specs.LineColumnLaws;
 
-use super::{LineColumn, LineColumnRow};
+use super::LineColumn;
 use crate::Monoid;
 
 impl Monoid for LineColumn {
-    type Row = LineColumnRow;
+    type Row = LineColumn;
 
     ghost model = { line_column_model };
 
@@ -19,43 +19,34 @@ impl Monoid for LineColumn {
     }
 
     fn of_byte(byte: u8) -> LineColumn {
-        if byte == b'\n' {
-            return LineColumn {
+        match byte {
+            b'\n' => LineColumn {
                 lines: 1,
                 columns: 0,
-            };
-        }
-        LineColumn {
-            lines: 0,
-            columns: 1,
+            },
+            _ => LineColumn {
+                lines: 0,
+                columns: 1,
+            },
         }
     }
 
     fn join(self, other: LineColumn) -> LineColumn {
-        let lines = self.lines.saturating_add(other.lines);
-        if other.lines > 0 {
-            return LineColumn {
-                lines,
-                columns: other.columns,
-            };
-        }
         LineColumn {
-            lines,
-            columns: self.columns.saturating_add(other.columns),
+            lines: self.lines.saturating_add(other.lines),
+            columns: if other.lines > 0 {
+                other.columns
+            } else {
+                self.columns.saturating_add(other.columns)
+            },
         }
     }
 
-    fn to_row(self) -> LineColumnRow {
-        LineColumnRow {
-            lines: self.lines,
-            columns: self.columns,
-        }
+    fn to_row(self) -> LineColumn {
+        self
     }
 
-    fn from_row(row: LineColumnRow) -> LineColumn {
-        LineColumn {
-            lines: row.lines,
-            columns: row.columns,
-        }
+    fn from_row(row: LineColumn) -> LineColumn {
+        row
     }
 }

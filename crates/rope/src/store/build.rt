@@ -1,26 +1,28 @@
-ghost use Rattle.rope.specs.Memory.{Valid};
 ghost use Rattle.rope.specs.Steps.{Buildable, Built};
 
 use super::Store;
-use crate::record::Source;
+use crate::record::Piece;
 use monoid::Monoid;
 
 /// The most bytes of a leaf.
 const LEAF: u32 = 64;
 
 impl<'b, 'a, M: Monoid> Store<'b, 'a, M> {
-    /// A tree of the `count` bytes from `start` on of the text that `source` names, in as few leaves as there can be.
-    pub fn build(&mut self, source: Source, start: u32, count: u32) -> u32
-        requires valid { Valid self.old }
-        requires buildable { Buildable self.old source start count }
-        ensures { Built M.Monoid.model self.old self.new result source start count }
+    /// A tree of a piece, in as few leaves as there can be.
+    pub fn build(&mut self, piece: Piece) -> u32
+        requires { Buildable self.old piece.source piece.start piece.len }
+        ensures { Built self.old self.new result piece.source piece.start piece.len }
     {
-        if count <= LEAF {
-            return self.push_leaf(source, start, count);
+        if piece.len <= LEAF {
+            return self.push_leaf(piece);
         }
-        let half = (count + (LEAF - 1)) / LEAF / 2 * LEAF;
-        let left = self.build(source, start, half);
-        let right = self.build(source, start + half, count - half);
+        let half = (piece.len + (LEAF - 1)) / LEAF / 2 * LEAF;
+        let left = self.build(Piece { len: half, ..piece });
+        let right = self.build(Piece {
+            source: piece.source,
+            start: piece.start + half,
+            len: piece.len - half,
+        });
         self.push_inner(left, right)
     }
 }

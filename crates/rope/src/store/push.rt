@@ -1,24 +1,26 @@
 ghost use Rattle.rope.specs.Tree.{leaf, node};
 ghost use Rattle.rope.specs.Arena.{part};
-ghost use Rattle.rope.specs.Memory.{Valid, arena_of, tree_of};
+ghost use Rattle.rope.specs.Memory.{arena_of, tree_of};
 ghost use Rattle.rope.specs.Steps.{Pairs, Leafs, Pushed};
 
 use super::Store;
-use crate::record::{Record, Shape, Source};
+use crate::record::{Piece, Record, Shape};
 use monoid::Monoid;
 use monoid::fold::fold;
 
 impl<'b, 'a, M: Monoid> Store<'b, 'a, M> {
-    /// A leaf of the `count` bytes from `start` on of the text that `source` names.
-    pub fn push_leaf(&mut self, source: Source, start: u32, count: u32) -> u32
-        requires valid { Valid self.old }
-        requires leafs { Leafs self.old source start count }
-        ensures { Pushed M.Monoid.model self.old self.new result (leaf (part (arena_of self.old) source start count)) }
+    /// A leaf of a piece.
+    pub fn push_leaf(&mut self, piece: Piece) -> u32
+        requires { Leafs self.old piece.source piece.start piece.len }
+        ensures { Pushed self.old self.new result (leaf (part (arena_of self.old) piece.source piece.start piece.len)) }
     {
-        let value: M = fold(self.view().bytes(source, start, count));
+        let value: M = fold(self.view().bytes(piece));
         self.push(Record {
-            shape: Shape::Leaf { source, start },
-            length: count,
+            shape: Shape::Leaf {
+                source: piece.source,
+                start: piece.start,
+            },
+            length: piece.len,
             height: 0,
             row: value.to_row(),
         })
@@ -26,9 +28,8 @@ impl<'b, 'a, M: Monoid> Store<'b, 'a, M> {
 
     /// An inner record over two records, the left one's text first.
     pub fn push_inner(&mut self, left: u32, right: u32) -> u32
-        requires valid { Valid self.old }
-        requires pairs { Pairs self.old left right }
-        ensures { Pushed M.Monoid.model self.old self.new result (node (tree_of self.old left) (tree_of self.old right)) }
+        requires { Pairs self.old left right }
+        ensures { Pushed self.old self.new result (node (tree_of self.old left) (tree_of self.old right)) }
     {
         let l = self.record(left);
         let r = self.record(right);

@@ -9,12 +9,12 @@ use Rattle.rope_cut.proofs.+back_at.Goals as goal
 pub back_at-requires : goal.back_at-requires
 back_at-requires g t c κs within =
     let e = splits_of c.record-top.ensures c.in-Inner.is in
-    (omega (arith, e.right), (within.0, (within.1, (c.requires.valid, (right_partable c.requires.partable e, omega (arith, splits_size e, c.record-split.ensures.long, c.requires.within))))))
+    (omega (arith, e.right), (within.0, (within.1, ((right_partable c.requires.partable e, omega (arith, splits_size e, c.record-split.ensures.long, c.requires.within))))))
 
 pub join-requires : goal.join-requires
 join-requires g t c =
     let e = splits_of c.record-top.ensures c.in-Inner.is in
-    record { valid = c.back_at-l.ensures.takes.valid; joinable = back_joinable c.requires.valid c.requires.partable e c.args.a (omega (arith, c.record-split.ensures.long)) c.back_at-l.ensures }
+    back_joinable c.requires.partable e c.args.a (omega (arith, c.record-split.ensures.long)) c.back_at-l.ensures
 
 pub returns-in-Leaf : goal.returns-in-Leaf
 returns-in-Leaf g t c =
@@ -26,9 +26,9 @@ returns-in-Leaf g t c =
 pub returns-then-a-split : goal.returns-then-a-split
 returns-then-a-split g t c =
     let e = splits_of c.record-top.ensures c.in-Inner.is in
-    back_right c.requires.valid c.requires.partable e c.args.a c.record-split.result.length c.record-split.ensures.long (omega arith) c.back_at.ensures
+    back_right c.requires.partable e c.args.a c.record-split.result.length c.record-split.ensures.long (omega arith) c.back_at.ensures
 
 pub returns-else-a-split : goal.returns-else-a-split
 returns-else-a-split g t c =
     let e = splits_of c.record-top.ensures c.in-Inner.is in
-    back_joined c.requires.valid c.requires.partable e c.args.a (omega (arith, c.record-split.ensures.long)) c.back_at-l.ensures c.join.ensures
+    back_joined c.requires.partable e c.args.a (omega (arith, c.record-split.ensures.long)) c.back_at-l.ensures c.join.ensures

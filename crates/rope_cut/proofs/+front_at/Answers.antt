@@ -8,17 +8,17 @@ use Rattle.rope_cut.proofs.+front_at.Goals as goal
 
 pub returns-then-b-top : goal.returns-then-b-top
 returns-then-b-top g t c =
-    whole c.requires.valid c.requires.partable (front_whole c.args.b (text (tree_of c.args.store.now c.args.i)) (omega (arith, c.record-top.ensures.long)))
+    whole c.requires.partable (front_whole c.args.b (text (tree_of c.args.store.now c.args.i)) (omega (arith, c.record-top.ensures.long)))
 
 pub front_at-r-requires : goal.front_at-r-requires
 front_at-r-requires g t c κs within =
     let e = splits_of c.record-top.ensures c.in-Inner.is in
-    (omega (arith, e.right), (within.0, (within.1, (c.requires.valid, (right_partable c.requires.partable e, (omega arith, omega (arith, splits_size e, c.record-split.ensures.long, c.requires.within.1)))))))
+    (omega (arith, e.right), (within.0, (within.1, ((right_partable c.requires.partable e, (omega arith, omega (arith, splits_size e, c.record-split.ensures.long, c.requires.within.1)))))))
 
 pub join-requires : goal.join-requires
 join-requires g t c =
     let e = splits_of c.record-top.ensures c.in-Inner.is in
-    record { valid = c.front_at-r.ensures.takes.valid; joinable = front_joinable c.requires.valid c.requires.partable e c.args.b c.record-split.result.length c.record-split.ensures.long (omega arith) c.front_at-r.ensures }
+    front_joinable c.requires.partable e c.args.b c.record-split.result.length c.record-split.ensures.long (omega arith) c.front_at-r.ensures
 
 pub returns-in-Leaf : goal.returns-in-Leaf
 returns-in-Leaf g t c =
@@ -30,9 +30,9 @@ returns-in-Leaf g t c =
 pub returns-then-b-split : goal.returns-then-b-split
 returns-then-b-split g t c =
     let e = splits_of c.record-top.ensures c.in-Inner.is in
-    front_left c.requires.valid c.requires.partable e c.args.b (omega (arith, c.record-split.ensures.long)) c.front_at.ensures
+    front_left c.requires.partable e c.args.b (omega (arith, c.record-split.ensures.long)) c.front_at.ensures
 
 pub returns-else-b-split : goal.returns-else-b-split
 returns-else-b-split g t c =
     let e = splits_of c.record-top.ensures c.in-Inner.is in
-    front_joined c.requires.valid c.requires.partable e c.args.b c.record-split.result.length c.record-split.ensures.long (omega arith) c.front_at-r.ensures c.join.ensures
+    front_joined c.requires.partable e c.args.b c.record-split.result.length c.record-split.ensures.long (omega arith) c.front_at-r.ensures c.join.ensures

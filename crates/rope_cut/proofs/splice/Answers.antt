@@ -4,29 +4,26 @@ use Rattle.rope_cut.proofs.splice.Goals as goal
 pub back-behind-requires : goal.back-behind-requires
 back-behind-requires g c =
     record {
-      valid = c.front-before.ensures.takes.valid;
-      rooted = second_rooted c.requires.valid c.requires.rooted c.requires.part c.requires.short c.requires.free c.front-before.ensures;
-      within = second_within c.requires.valid c.requires.rooted c.requires.part c.requires.short c.requires.free c.front-before.ensures;
-      free = second_free c.requires.valid c.requires.rooted c.requires.part c.requires.short c.requires.free c.front-before.ensures;
+      rooted = second_rooted c.requires.rooted c.requires.part c.requires.short c.requires.free c.front-before.ensures;
+      within = second_within c.requires.rooted c.requires.part c.requires.short c.requires.free c.front-before.ensures;
+      free = second_free c.requires.rooted c.requires.part c.requires.short c.requires.free c.front-before.ensures;
     }
 
 pub join_roots-tail-requires : goal.join_roots-tail-requires
 join_roots-tail-requires g c =
     record {
-      valid = c.back-behind.ensures.takes.valid;
-      rooted = tail_rooted c.requires.valid c.requires.rooted c.requires.part c.requires.short c.requires.free c.front-before.ensures c.back-behind.ensures;
-      short = tail_short c.requires.valid c.requires.rooted c.requires.part c.requires.short c.requires.free c.front-before.ensures c.back-behind.ensures;
-      free = tail_free c.requires.valid c.requires.rooted c.requires.part c.requires.short c.requires.free c.front-before.ensures c.back-behind.ensures;
+      rooted = tail_rooted c.requires.rooted c.requires.part c.requires.short c.requires.free c.front-before.ensures c.back-behind.ensures;
+      short = tail_short c.requires.rooted c.requires.part c.requires.short c.requires.free c.front-before.ensures c.back-behind.ensures;
+      free = tail_free c.requires.rooted c.requires.part c.requires.short c.requires.free c.front-before.ensures c.back-behind.ensures;
     }
 
 pub join_roots-requires : goal.join_roots-requires
 join_roots-requires g c =
     record {
-      valid = c.join_roots-tail.ensures.makes.takes.valid;
-      rooted = last_rooted c.requires.valid c.requires.rooted c.requires.part c.requires.short c.requires.free c.front-before.ensures c.back-behind.ensures c.join_roots-tail.ensures.makes;
-      short = last_short c.requires.valid c.requires.rooted c.requires.part c.requires.short c.requires.free c.front-before.ensures c.back-behind.ensures c.join_roots-tail.ensures.makes;
-      free = last_free c.requires.valid c.requires.rooted c.requires.part c.requires.short c.requires.free c.front-before.ensures c.back-behind.ensures c.join_roots-tail.ensures.makes;
+      rooted = last_rooted c.requires.rooted c.requires.part c.requires.short c.requires.free c.front-before.ensures c.back-behind.ensures c.join_roots-tail.ensures.makes;
+      short = last_short c.requires.rooted c.requires.part c.requires.short c.requires.free c.front-before.ensures c.back-behind.ensures c.join_roots-tail.ensures.makes;
+      free = last_free c.requires.rooted c.requires.part c.requires.short c.requires.free c.front-before.ensures c.back-behind.ensures c.join_roots-tail.ensures.makes;
     }
 
 pub returns : goal.returns
-returns g c = splice_done c.requires.valid c.requires.rooted c.requires.part c.requires.short c.requires.free c.front-before.ensures c.back-behind.ensures c.join_roots-tail.ensures.makes c.join_roots.ensures.makes
+returns g c = splice_done c.requires.rooted c.requires.part c.requires.short c.requires.free c.front-before.ensures c.back-behind.ensures c.join_roots-tail.ensures.makes c.join_roots.ensures.makes

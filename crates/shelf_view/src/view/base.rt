@@ -1,5 +1,4 @@
 ghost use Rattle.std.specs.Prelude.{◌≡◌, true};
-ghost use Rattle.rope.specs.Arena.{Bounded, Shaped};
 ghost use Rattle.rope.specs.Memory.{seen};
 ghost use Rattle.shelf_view.specs.Documents.{fine, all_fine, root_in};
 ghost use Rattle.shelf_view.specs.State.{shown};
@@ -10,7 +9,7 @@ use rope::record::Root;
 use rope::view::View as RopeView;
 
 impl<'v, M: Monoid> View<'v, M> {
-    /// A view of these trees, for the shelf that they lie on.
+    /// A view of these trees, for the shelf that they lie on. Five arguments and no struct: the fields of the view itself.
     pub fn over(
         rope: RopeView<'v, M>,
         roots: &'v [Root],
@@ -18,8 +17,6 @@ impl<'v, M: Monoid> View<'v, M> {
         mark: u32,
         opened: u32,
     ) -> View<'v, M>
-        requires bounded { Bounded (seen rope) }
-        requires shaped { Shaped (seen rope) }
         requires documents { all_fine (seen rope) roots.now ≡ true }
         requires drafted { fine (seen rope) (root_in draft) ≡ true }
         ensures { shown result ≡ record { arena = seen rope.entry; roots = roots.now; draft = draft; mark = mark; opened = opened } }

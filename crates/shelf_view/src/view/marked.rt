@@ -1,61 +1,59 @@
 ghost use Rattle.std.specs.Prelude.{◌≡◌, ◌+◌, ◌≤◌, ◌++◌, length, drop};
 ghost use Rattle.std.specs.List.{between};
-ghost use Rattle.rope.specs.Arena.{Summed};
 ghost use Rattle.shelf_view.specs.Refusals.{Answers};
 ghost use Rattle.shelf_view.specs.State.{shown, strings, text_at};
 ghost use Rattle.shelf_view.specs.Questions.{of_part, of_copy, of_same};
-ghost use Rattle.shelf_view.specs.Places.{Span, Within};
-ghost use Rattle.shelf_view.specs.Marked.{marked, Compares, Around, ReadsBack};
+ghost use Rattle.shelf_view.specs.Places.{Within};
+ghost use Rattle.shelf_view.specs.Marked.{fingerprint, Compares, Around, ReadsBack};
 
 use super::View;
 use super::part::Part;
 use crate::refusal::Refusal;
 use crate::sameness::Sameness;
-use monoid::Monoid;
 use monoid::line_column::LineColumn;
 use monoid::pair::Pair;
-use rope_read::{fold_part, len};
+use rope_read::text::Text;
 use zemor::matrix::Sl2;
 use zemor::window::ops::read_back;
 
 impl<'v> View<'v, Pair<Sl2, LineColumn>> {
-    /// The `n` bytes from `a` in document `d`, where they are a lawful part.
-    fn stretch(&self, d: u32, a: usize, n: usize) -> Result<Part, Refusal>
-        ensures { Answers (of_part (strings self.now) d a (a + n)) (Span marked (shown self.now) d a (a + n)) result }
+    /// The fingerprint of the `n` bytes from `a` in document `d`, where they are a lawful part.
+    fn mark(&self, d: u32, a: usize, n: usize) -> Result<Sl2, Refusal>
+        ensures { Answers (of_part (strings self.now) d a (a + n)) (λ x. x ≡ fingerprint (between a (a + n) (text_at (strings self.now) d))) result }
     {
+        // no `ok_or(..)?`: a document that is not there is refused before a part that is too long
         let Some(end) = a.checked_add(n) else {
             self.root(d)?;
             return Err(Refusal::BadPart);
         };
-        self.part(d, a, end)
+        Ok(self.part_summary(d, a, end)?.first)
     }
 
     /// Compares the `n` bytes from `a` in document `d` with the `n` bytes from `b` in document `e`, by their fingerprints.
     pub fn same(&self, d: u32, a: usize, e: u32, b: usize, n: usize) -> Result<Sameness, Refusal>
-        ensures { Answers (of_same (strings self.now) d a e b n) (λ k. Summed marked (shown self.now).arena → Compares n (between a (a + n) (text_at (strings self.now) d)) (between b (b + n) (text_at (strings self.now) e)) k) result }
+        ensures { Answers (of_same (strings self.now) d a e b n) (Compares n (between a (a + n) (text_at (strings self.now) d)) (between b (b + n) (text_at (strings self.now) e))) result }
     {
         self.root(d)?;
         self.root(e)?;
-        let one = self.stretch(d, a, n)?;
-        let other = self.stretch(e, b, n)?;
-        let x = fold_part(self.rope, one.root, one.from, one.to).first;
-        let y = fold_part(self.rope, other.root, other.from, other.to).first;
-        if !x.equals(y) {
-            return Ok(Sameness::Different);
-        }
-        if n <= 5 {
-            return Ok(Sameness::Equal);
-        }
-        Ok(Sameness::Alike)
+        let x = self.mark(d, a, n)?;
+        let y = self.mark(e, b, n)?;
+        Ok(if !x.equals(y) {
+            Sameness::Different
+        } else if n <= 5 {
+            Sameness::Equal
+        } else {
+            Sameness::Alike
+        })
     }
 
     /// The fingerprints of what stands before and behind a part.
     fn around(&self, part: Part) -> (Sl2, Sl2)
         requires { Within (shown self.now) part }
-        ensures { Summed marked (shown self.now).arena → Around (shown self.now) part result.0 result.1 }
+        ensures { Around (shown self.now) part result.0 result.1 }
     {
-        let front = fold_part(self.rope, part.root, 0, part.from);
-        let back = fold_part(self.rope, part.root, part.to, len(self.rope, part.root));
+        let text = Text::new(self.rope, part.root);
+        let front = text.fold_part(0, part.from);
+        let back = text.fold_part(part.to, text.len());
         (front.first, back.first)
     }
 
@@ -69,24 +67,21 @@ impl<'v> View<'v, Pair<Sl2, LineColumn>> {
         fingerprint: &[u8],
         out: &mut [u8],
     ) -> Result<usize, Refusal>
-        ensures { Summed marked (shown self.now).arena → ReadsBack (of_copy (strings self.now) d a b 5 (length out.old)) (text_at (strings self.now) d) a b fingerprint.now out.old out.new result }
+        ensures { ReadsBack (of_copy (strings self.now) d a b 5 (length out.old)) (text_at (strings self.now) d) a b fingerprint.now out.old out.new result }
     {
         let part = self.part(d, a, b)?;
         if out.len() < 5 {
             return Err(Refusal::SmallBuffer);
         }
-        let Some(whole) = Sl2::from_hex(fingerprint) else {
-            return Err(Refusal::BadFingerprint);
-        };
+        let whole = Sl2::from_hex(fingerprint).ok_or(Refusal::BadFingerprint)?;
         let (front, back) = self.around(part);
-        let Some(window) = read_back(front, whole, back) else {
-            return Err(Refusal::NoWindow);
-        };
+        let window = read_back(front, whole, back).ok_or(Refusal::NoWindow)?;
         Ok(write_start(window.as_slice(), out))
     }
 }
 
-/// Writes `text` at the start of `out`, and answers its length.
+/// Writes `text` at the start of `out`, and answers its length. The caller has tested that it fits, so it cannot refuse as
+/// the writer of netstrings does.
 fn write_start(text: &[u8], out: &mut [u8]) -> usize
     requires { length text.now ≤ length out.old }
     ensures value { result ≡ length text.now }

@@ -1,3 +1,4 @@
+ghost use Rattle.std.specs.Prelude.{◌≡◌};
 ghost use Rattle.shelf_view.specs.Refusals.{Answers};
 ghost use Rattle.shelf_view.specs.State.{shown, strings};
 ghost use Rattle.shelf_view.specs.Questions.{of_document, of_draft, of_part};
@@ -9,31 +10,48 @@ use crate::draft_id::DraftId;
 use crate::refusal::Refusal;
 use monoid::Monoid;
 use rope::record::Root;
-use rope_read::len;
+use rope_read::text::Text;
 
 impl<'v, M: Monoid> View<'v, M> {
     /// The root of document `d`.
     pub fn root(&self, d: u32) -> Result<Root, Refusal>
         ensures { Answers (of_document (strings self.now) d) (Lies M.Monoid.model (shown self.now) d) result }
     {
-        if d == 0 {
-            return Ok(Root::Empty);
+        match d.checked_sub(1) {
+            None => Ok(None),
+            Some(i) => self
+                .roots
+                .get(i as usize)
+                .copied()
+                .ok_or(Refusal::NoDocument),
         }
-        let i = d as usize - 1;
-        if i >= self.roots.len() {
-            return Err(Refusal::NoDocument);
-        }
-        Ok(self.roots[i])
     }
 
     /// The root of the open draft.
     pub fn draft_root(&self, id: DraftId) -> Result<Root, Refusal>
         ensures { Answers (of_draft (strings self.now) self.now.mark id) (Drafts M.Monoid.model (shown self.now)) result }
     {
-        match self.draft {
-            Some(root) if id.mark == self.mark && id.count == self.opened => Ok(root),
-            _ => Err(Refusal::StrangeDraft),
-        }
+        let open = DraftId {
+            mark: self.mark,
+            count: self.opened,
+        };
+        self.draft
+            .filter(|_| id == open)
+            .ok_or(Refusal::StrangeDraft)
+    }
+
+    /// Document `d`, for reading.
+    pub(super) fn text(&self, d: u32) -> Result<Text<'v, M>, Refusal>
+        ensures { Answers (of_document (strings self.now) d) (λ t. (t.view ≡ self.now.rope) × Lies M.Monoid.model (shown self.now) d t.root) result }
+    {
+        Ok(Text::new(self.rope, self.root(d)?))
+    }
+
+    /// The open draft, for reading.
+    pub(super) fn draft_text(&self, id: DraftId) -> Result<Text<'v, M>, Refusal>
+        ensures { Answers (of_draft (strings self.now) self.now.mark id) (λ t. (t.view ≡ self.now.rope) × Drafts M.Monoid.model (shown self.now) t.root) result }
+    {
+        Ok(Text::new(self.rope, self.draft_root(id)?))
     }
 
     /// The part `a` to `b` of document `d`, where it is lawful.
@@ -41,7 +59,7 @@ impl<'v, M: Monoid> View<'v, M> {
         ensures { Answers (of_part (strings self.now) d a b) (Span M.Monoid.model (shown self.now) d a b) result }
     {
         let root = self.root(d)?;
-        if a > b || b > len(self.rope, root) as usize {
+        if a > b || b > Text::new(self.rope, root).len() as usize {
             return Err(Refusal::BadPart);
         }
         Ok(Part {

@@ -1,6 +1,6 @@
 ghost use Rattle.std.specs.Prelude.{◌≡◌};
-ghost use Rattle.text_shelf.specs.Steps.{Steps, made};
-ghost use Rattle.text_shelf.specs.declared.call.Call.TheVariants.{Open, Add, Seal, GiveUp};
+ghost use Rattle.text_shelf.specs.Steps.{Steps};
+ghost use Rattle.text_shelf.specs.declared.call.Call.TheVariants.{Add, Seal, GiveUp};
 
 use super::Shelf;
 use crate::call::{Answer, Call};
@@ -9,79 +9,56 @@ use monoid::Monoid;
 use shelf_view::draft_id::DraftId;
 use shelf_view::refusal::Refusal;
 
-fn answer_made(r: Result<u32, Refusal>) -> Answer
-    ensures { result ≡ made r }
+/// Lets go of the draft that a refused call hands back.
+fn refused(refusal: (Refusal, Draft)) -> Refusal
+    ensures { result ≡ refusal.0 }
 {
-    match r {
-        Ok(n) => Answer::Made(n),
-        Err(why) => Answer::Refused(why),
-    }
+    let (why, back) = refusal;
+    back.let_go();
+    why
 }
 
 impl<'b, 'a, M: Monoid> Shelf<'b, 'a, M> {
-    fn apply_open(&mut self) -> Answer
-        ensures { Steps M.Monoid.model self.old Open result self.new }
-    {
-        match self.open() {
-            Ok(draft) => {
-                let Draft { id } = draft;
-                Answer::Opened(id)
-            }
-            Err(why) => Answer::Refused(why),
-        }
-    }
-
-    fn apply_add(&mut self, id: DraftId, text: &[u8]) -> Answer
-        ensures { Steps M.Monoid.model self.old (Add id text.entry) result self.new }
+    fn apply_add(&mut self, id: DraftId, text: &[u8]) -> Result<Answer, Refusal>
+        ensures { Steps self.old (Add id text.entry) result self.new }
     {
         let draft = Draft { id };
         let added = draft.add(self, text);
-        let Draft { id: _ } = draft;
-        match added {
-            Ok(_) => Answer::Done,
-            Err(why) => Answer::Refused(why),
-        }
+        draft.let_go();
+        added.map(|_| Answer::Done)
     }
 
-    fn apply_seal(&mut self, id: DraftId) -> Answer
-        ensures { Steps M.Monoid.model self.old (Seal id) result self.new }
+    fn apply_seal(&mut self, id: DraftId) -> Result<Answer, Refusal>
+        ensures { Steps self.old (Seal id) result self.new }
     {
-        match (Draft { id }).seal(self) {
-            Ok(n) => Answer::Made(n),
-            Err((why, back)) => {
-                let Draft { id: _ } = back;
-                Answer::Refused(why)
-            }
-        }
+        (Draft { id }).seal(self).map(Answer::Made).map_err(refused)
     }
 
-    fn apply_give_up(&mut self, id: DraftId) -> Answer
-        ensures { Steps M.Monoid.model self.old (GiveUp id) result self.new }
+    fn apply_give_up(&mut self, id: DraftId) -> Result<Answer, Refusal>
+        ensures { Steps self.old (GiveUp id) result self.new }
     {
-        match (Draft { id }).give_up(self) {
-            Ok(_) => Answer::Done,
-            Err((why, back)) => {
-                let Draft { id: _ } = back;
-                Answer::Refused(why)
-            }
-        }
+        (Draft { id })
+            .give_up(self)
+            .map(|_| Answer::Done)
+            .map_err(refused)
     }
 
     /// Runs one call, through the method of its name. A call about a draft names it by any mark and count.
-    pub fn apply<'t>(&mut self, call: &Call<'t>) -> Answer
-        ensures { Steps M.Monoid.model self.old call.now result self.new }
+    pub fn apply<'t>(&mut self, call: &Call<'t>) -> Result<Answer, Refusal>
+        ensures { Steps self.old call.now result self.new }
     {
+        // a match, and no table of closures: each kind of call has its own arguments
         match call {
-            Call::Put(text) => answer_made(self.put(text)),
-            Call::Take { from, to } => answer_made(self.take(*from, *to)),
-            Call::Cut { document, from, to } => answer_made(self.cut(*document, *from, *to)),
+            Call::Put(text) => self.put(text).map(Answer::Made),
+            Call::Take { from, to } => self.take(*from, *to).map(Answer::Made),
+            Call::Cut { document, from, to } => self.cut(*document, *from, *to).map(Answer::Made),
             Call::Splice {
                 document,
                 from,
                 to,
                 other,
-            } => answer_made(self.splice(*document, *from, *to, *other)),
-            Call::Open => self.apply_open(),
+            } => self.splice(*document, *from, *to, *other).map(Answer::Made),
+            Call::Open => self.open().map(|draft| Answer::Opened(draft.let_go())),
             Call::Add { draft, text } => self.apply_add(*draft, text),
             Call::Seal(draft) => self.apply_seal(*draft),
             Call::GiveUp(draft) => self.apply_give_up(*draft),

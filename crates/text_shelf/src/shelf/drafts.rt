@@ -5,7 +5,6 @@ ghost use Rattle.text_shelf.specs.declared.call.Call.TheVariants.{Open, Add, Sea
 use super::Shelf;
 use crate::draft::Draft;
 use monoid::Monoid;
-use rope::record::Root;
 use rope_keep::lengthen;
 use shelf_view::draft_id::DraftId;
 use shelf_view::refusal::Refusal;
@@ -13,12 +12,12 @@ use shelf_view::refusal::Refusal;
 impl<'b, 'a, M: Monoid> Shelf<'b, 'a, M> {
     /// Starts an empty draft.
     pub fn open(&mut self) -> Result<Draft, Refusal>
-        ensures { Steps M.Monoid.model self.old Open (started result) self.new }
+        ensures { Steps self.old Open (started result) self.new }
     {
         if self.draft.is_some() || self.opened == u32::MAX {
             return Err(Refusal::DraftOpen);
         }
-        self.draft = Some(Root::Empty);
+        self.draft = Some(None);
         self.opened += 1;
         Ok(Draft {
             id: DraftId {
@@ -30,20 +29,13 @@ impl<'b, 'a, M: Monoid> Shelf<'b, 'a, M> {
 }
 
 impl Draft {
-    /// The draft's name, by which a view is asked about it.
-    pub fn id(&self) -> DraftId
-        ensures { result ≡ self.now.id }
-    {
-        self.id
-    }
-
     /// Lengthens the draft at its end by `text`.
     pub fn add<'b, 'a, M: Monoid>(
         &self,
         shelf: &mut Shelf<'b, 'a, M>,
         text: &[u8],
     ) -> Result<(), Refusal>
-        ensures { Steps M.Monoid.model shelf.old (Add self.now.id text.entry) (done result) shelf.new }
+        ensures { Steps shelf.old (Add self.now.id text.entry) (done result) shelf.new }
     {
         let root = shelf.draft_to_add(self.id, text)?;
         shelf.draft = Some(lengthen(&mut shelf.store, root, text));
@@ -55,13 +47,14 @@ impl Draft {
         self,
         shelf: &mut Shelf<'b, 'a, M>,
     ) -> Result<u32, (Refusal, Draft)>
-        ensures step { Steps M.Monoid.model shelf.old (Seal self.id) (sealed result) shelf.new }
+        ensures step { Steps shelf.old (Seal self.id) (sealed result) shelf.new }
         ensures back { Back self result }
     {
+        // no `map_err(..)?`: the draft goes either back or to its end
         match shelf.draft_to_seal(self.id) {
             Err(why) => Err((why, self)),
             Ok(root) => {
-                let Draft { id: _ } = self;
+                self.let_go();
                 shelf.draft = None;
                 Ok(shelf.places.push(root) as u32)
             }
@@ -73,13 +66,14 @@ impl Draft {
         self,
         shelf: &mut Shelf<'b, 'a, M>,
     ) -> Result<(), (Refusal, Draft)>
-        ensures step { Steps M.Monoid.model shelf.old (GiveUp self.id) (ended result) shelf.new }
+        ensures step { Steps shelf.old (GiveUp self.id) (ended result) shelf.new }
         ensures back { Back self result }
     {
+        // no `map_err(..)?`, as in `seal`
         match shelf.draft_to_end(self.id) {
             Err(why) => Err((why, self)),
             Ok(_) => {
-                let Draft { id: _ } = self;
+                self.let_go();
                 shelf.draft = None;
                 Ok(())
             }

@@ -10,29 +10,25 @@ use shelf_view::refusal::Refusal;
 impl<'b, 'a, M: Monoid> Shelf<'b, 'a, M> {
     /// Appends `text` as a document, and answers its number.
     pub fn put(&mut self, text: &[u8]) -> Result<u32, Refusal>
-        ensures { Steps M.Monoid.model self.old (Put text.entry) (made result) self.new }
+        ensures { Steps self.old (Put text.entry) (made result) self.new }
     {
-        if let Some(why) = self.why_put(text) {
-            return Err(why);
-        }
+        self.check_put(text)?;
         let root = keep(&mut self.store, text);
         Ok(self.places.push(root) as u32)
     }
 
     /// Appends the part `from` to `to` of the build text as a document, and answers its number.
     pub fn take(&mut self, from: usize, to: usize) -> Result<u32, Refusal>
-        ensures { Steps M.Monoid.model self.old (Take from to) (made result) self.new }
+        ensures { Steps self.old (Take from to) (made result) self.new }
     {
-        if let Some(why) = self.why_take(from, to) {
-            return Err(why);
-        }
+        self.check_take(from, to)?;
         let root = take_part(&mut self.store, from as u32, (to - from) as u32);
         Ok(self.places.push(root) as u32)
     }
 
     /// Appends the part `from` to `to` of document `d`, and answers the new document's number.
     pub fn cut(&mut self, d: u32, from: usize, to: usize) -> Result<u32, Refusal>
-        ensures { Steps M.Monoid.model self.old (Cut d from to) (made result) self.new }
+        ensures { Steps self.old (Cut d from to) (made result) self.new }
     {
         let part = self.cut_part(d, from, to)?;
         let root = cut(&mut self.store, part.root, part.from, part.to);
@@ -42,7 +38,7 @@ impl<'b, 'a, M: Monoid> Shelf<'b, 'a, M> {
     /// Appends document `d` with its part `from` to `to` replaced by the whole of document `other`, and answers the new
     /// document's number.
     pub fn splice(&mut self, d: u32, from: usize, to: usize, other: u32) -> Result<u32, Refusal>
-        ensures { Steps M.Monoid.model self.old (Splice d from to other) (made result) self.new }
+        ensures { Steps self.old (Splice d from to other) (made result) self.new }
     {
         let (part, more) = self.splice_parts(d, from, to, other)?;
         let root = splice(&mut self.store, part.root, part.from, part.to, more);

@@ -1,12 +1,10 @@
-ghost use Rattle.std.specs.Prelude.{◌≡◌, ◌≤◌, [], ◌∷◌};
-ghost use Rattle.shelf_view.specs.Refusals.{first, Answers};
-ghost use Rattle.shelf_view.specs.declared.refusal.Refusal.TheVariants.{RecordsShort, NumbersSpent};
-ghost use Rattle.text_shelf.specs.Shelves.{parts, shelved, brought, told, strings};
-ghost use Rattle.rope_cut.specs.Parts.{edit_need};
-ghost use Rattle.rope_keep.specs.Kept.{need_of_text};
+ghost use Rattle.std.specs.Prelude.{◌≡◌, ◌≤◌, ⊤};
+ghost use Rattle.shelf_view.specs.Refusals.{Answers};
 ghost use Rattle.shelf_view.specs.Places.{Lies, Span, Drafts};
-ghost use Rattle.text_shelf.specs.Calls.{reason, records_short, numbers_spent};
-ghost use Rattle.text_shelf.specs.Longer.{longer};
+ghost use Rattle.rope_cut.specs.Parts.{edit_need as need_of_edit};
+ghost use Rattle.rope_keep.specs.Kept.{need_of_text};
+ghost use Rattle.text_shelf.specs.Shelves.{parts, shelved};
+ghost use Rattle.text_shelf.specs.Whys.{why, why_bytes, why_records, why_place, why_memory, why_longer};
 ghost use Rattle.text_shelf.specs.declared.call.Call.TheVariants.{Put, Take, Cut, Splice, Add, Seal, GiveUp};
 
 use super::Shelf;
@@ -27,67 +25,94 @@ fn text_need(n: usize) -> usize
     requires { n ≤ 1048576 }
     ensures { result ≡ need_of_text n }
 {
-    2 * ((n + 63) / 64)
+    2 * n.div_ceil(64)
+}
+
+/// The records that an edit of texts at most `high` may take.
+fn edit_need(high: u8) -> usize
+    ensures { result ≡ need_of_edit high }
+{
+    32 * (high as usize + 1)
 }
 
 impl<'b, 'a, M: Monoid> Shelf<'b, 'a, M> {
-    /// Why a new document that may take `need` records is refused for want of memory.
-    fn why_new(&self, need: usize) -> Option<Refusal>
-        ensures { result ≡ first ((records_short (brought (parts self.now)) (told (parts self.now)) need, RecordsShort) ∷ (numbers_spent (brought (parts self.now)) (strings (parts self.now)), NumbersSpent) ∷ []) }
+    /// Refuses where there is no memory for `n` added bytes more.
+    fn bytes_for(&self, n: usize) -> Result<(), Refusal>
+        ensures { Answers (why_bytes self.now n) (λ x. ⊤) result }
     {
-        if self.store.room() - self.store.used() < need {
-            return Some(Refusal::RecordsShort);
+        if n > self.store.free_bytes() {
+            return Err(Refusal::TextFull);
         }
-        if self.places.room() <= self.places.count() {
-            return Some(Refusal::NumbersSpent);
-        }
-        None
+        Ok(())
     }
 
-    /// Why an edit of texts at most `high` is refused for want of memory.
-    fn why_edit(&self, high: u8) -> Option<Refusal>
-        ensures { result ≡ first ((records_short (brought (parts self.now)) (told (parts self.now)) (edit_need high), RecordsShort) ∷ (numbers_spent (brought (parts self.now)) (strings (parts self.now)), NumbersSpent) ∷ []) }
+    /// Refuses where fewer than `need` records are free.
+    fn records_for(&self, need: usize) -> Result<(), Refusal>
+        ensures { Answers (why_records self.now need) (λ x. ⊤) result }
     {
-        self.why_new(32 * (high as usize + 1))
+        if self.store.free_records() < need {
+            return Err(Refusal::RecordsShort);
+        }
+        Ok(())
     }
 
-    pub(super) fn why_put(&self, text: &[u8]) -> Option<Refusal>
-        ensures { result ≡ reason (brought (parts self.now)) (told (parts self.now)) (strings (parts self.now)) (Put text.entry) }
+    /// Refuses where every place is taken.
+    fn place_for_one(&self) -> Result<(), Refusal>
+        ensures { Answers (why_place self.now) (λ x. ⊤) result }
+    {
+        if self.places.room() == 0 {
+            return Err(Refusal::NumbersSpent);
+        }
+        Ok(())
+    }
+
+    /// Refuses where there is no memory for a new document that may take `need` records.
+    fn memory_for(&self, need: usize) -> Result<(), Refusal>
+        ensures { Answers (why_memory self.now need) (λ x. ⊤) result }
+    {
+        self.records_for(need)?;
+        self.place_for_one()
+    }
+
+    /// Refuses where there is no memory for an edit of texts at most `high`.
+    fn memory_for_edit(&self, high: u8) -> Result<(), Refusal>
+        ensures { Answers (why_memory self.now (need_of_edit high)) (λ x. ⊤) result }
+    {
+        self.memory_for(edit_need(high))
+    }
+
+    pub(super) fn check_put(&self, text: &[u8]) -> Result<(), Refusal>
+        ensures { Answers (why self.now (Put text.entry)) (λ x. ⊤) result }
     {
         let n = text.len();
         if n > MOST_BROUGHT {
-            return Some(Refusal::TooLong);
+            return Err(Refusal::TooLong);
         }
-        if n > self.store.added_room() - self.store.added() {
-            return Some(Refusal::TextFull);
-        }
-        self.why_new(text_need(n))
+        self.bytes_for(n)?;
+        self.memory_for(text_need(n))
     }
 
-    pub(super) fn why_take(&self, from: usize, to: usize) -> Option<Refusal>
-        ensures { result ≡ reason (brought (parts self.now)) (told (parts self.now)) (strings (parts self.now)) (Take from to) }
+    pub(super) fn check_take(&self, from: usize, to: usize) -> Result<(), Refusal>
+        ensures { Answers (why self.now (Take from to)) (λ x. ⊤) result }
     {
         if from > to || to > self.store.build_len() {
-            return Some(Refusal::BadPart);
+            return Err(Refusal::BadPart);
         }
         let n = to - from;
         if n > MOST_TEXT {
-            return Some(Refusal::TooLong);
+            return Err(Refusal::TooLong);
         }
-        self.why_new(text_need(n))
+        self.memory_for(text_need(n))
     }
 
     /// The part to cut, or why there is none.
     pub(super) fn cut_part(&self, d: u32, from: usize, to: usize) -> Result<Part, Refusal>
-        ensures { Answers (reason (brought (parts self.now)) (told (parts self.now)) (strings (parts self.now)) (Cut d from to)) (Span M.Monoid.model (shelved (parts self.now)) d from to) result }
+        ensures { Answers (why self.now (Cut d from to)) (Span M.Monoid.model (shelved (parts self.now)) d from to) result }
     {
         let view = self.view();
         let part = view.part(d, from, to)?;
-        let high = view.height(d)?;
-        match self.why_edit(high) {
-            Some(why) => Err(why),
-            None => Ok(part),
-        }
+        self.memory_for_edit(view.height(d)?)?;
+        Ok(part)
     }
 
     /// The part to replace and the root to put there, or why there are none.
@@ -98,7 +123,7 @@ impl<'b, 'a, M: Monoid> Shelf<'b, 'a, M> {
         to: usize,
         other: u32,
     ) -> Result<(Part, Root), Refusal>
-        ensures { Answers (reason (brought (parts self.now)) (told (parts self.now)) (strings (parts self.now)) (Splice d from to other)) (λ p. Span M.Monoid.model (shelved (parts self.now)) d from to p.0 × Lies M.Monoid.model (shelved (parts self.now)) other p.1) result }
+        ensures { Answers (why self.now (Splice d from to other)) (λ p. Span M.Monoid.model (shelved (parts self.now)) d from to p.0 × Lies M.Monoid.model (shelved (parts self.now)) other p.1) result }
     {
         let view = self.view();
         view.root(d)?;
@@ -109,57 +134,46 @@ impl<'b, 'a, M: Monoid> Shelf<'b, 'a, M> {
             return Err(Refusal::TooLong);
         }
         let high = view.height(d)?.max(view.height(other)?);
-        match self.why_edit(high) {
-            Some(why) => Err(why),
-            None => Ok((part, root)),
-        }
+        self.memory_for_edit(high)?;
+        Ok((part, root))
     }
 
     /// The root of the draft to lengthen by `text`, or why there is none.
     pub(super) fn draft_to_add(&self, id: DraftId, text: &[u8]) -> Result<Root, Refusal>
-        ensures { Answers (reason (brought (parts self.now)) (told (parts self.now)) (strings (parts self.now)) (Add id text.entry)) (Drafts M.Monoid.model (shelved (parts self.now))) result }
+        ensures { Answers (why self.now (Add id text.entry)) (Drafts M.Monoid.model (shelved (parts self.now))) result }
     {
         let view = self.view();
         let root = view.draft_root(id)?;
         let len = view.draft_len(id)?;
         let high = view.draft_height(id)?;
-        match self.why_longer(text.len(), len, high) {
-            Some(why) => Err(why),
-            None => Ok(root),
-        }
+        self.memory_for_more(text.len(), len, high)?;
+        Ok(root)
     }
 
-    /// Why a draft of `len` bytes, `high` high, is not lengthened by `n` bytes.
-    fn why_longer(&self, n: usize, len: usize, high: u8) -> Option<Refusal>
+    /// Refuses where a draft of `len` bytes, `high` high, is not lengthened by `n` bytes.
+    fn memory_for_more(&self, n: usize, len: usize, high: u8) -> Result<(), Refusal>
         requires { len ≤ 1048576 }
-        ensures { result ≡ first (longer (brought (parts self.now)) (told (parts self.now)) (strings (parts self.now)) n len high) }
+        ensures { Answers (why_longer self.now n len high) (λ x. ⊤) result }
     {
         if n > MOST_BROUGHT || len + n > MOST_TEXT {
-            return Some(Refusal::TooLong);
+            return Err(Refusal::TooLong);
         }
-        if n > self.store.added_room() - self.store.added() {
-            return Some(Refusal::TextFull);
-        }
-        if self.store.room() - self.store.used() < text_need(n) + 32 * (high as usize + 1) {
-            return Some(Refusal::RecordsShort);
-        }
-        None
+        self.bytes_for(n)?;
+        self.records_for(text_need(n) + edit_need(high))
     }
 
     /// The root of the draft to seal, or why there is none.
     pub(super) fn draft_to_seal(&self, id: DraftId) -> Result<Root, Refusal>
-        ensures { Answers (reason (brought (parts self.now)) (told (parts self.now)) (strings (parts self.now)) (Seal id)) (Drafts M.Monoid.model (shelved (parts self.now))) result }
+        ensures { Answers (why self.now (Seal id)) (Drafts M.Monoid.model (shelved (parts self.now))) result }
     {
         let root = self.view().draft_root(id)?;
-        if self.places.room() <= self.places.count() {
-            return Err(Refusal::NumbersSpent);
-        }
+        self.place_for_one()?;
         Ok(root)
     }
 
-    /// Whether the draft is the one that is open here, or why not.
+    /// The root of the draft to end, or why there is none.
     pub(super) fn draft_to_end(&self, id: DraftId) -> Result<Root, Refusal>
-        ensures { Answers (reason (brought (parts self.now)) (told (parts self.now)) (strings (parts self.now)) (GiveUp id)) (Drafts M.Monoid.model (shelved (parts self.now))) result }
+        ensures { Answers (why self.now (GiveUp id)) (Drafts M.Monoid.model (shelved (parts self.now))) result }
     {
         self.view().draft_root(id)
     }

@@ -1,12 +1,10 @@
 ghost use Rattle.std.specs.Prelude.{◌≡◌, MatchBool};
-ghost use Rattle.zemor.specs.Values.{sl2, inverse_of, Valid as Conditions, Checked as Found};
+ghost use Rattle.zemor.specs.Values.{sl2, inverse_of, Checked as Found};
 ghost use Rattle.zemor.specs.Laws;
 
 use super::{Entries, Sl2, table};
 use monoid::{Group, Monoid};
-use residue::{dot, multiply, multiply_add, negate};
-
-const P: u32 = 2147483647;
+use residue::{Residue, dot};
 
 impl Monoid for Sl2 {
     type Row = Entries;
@@ -17,10 +15,10 @@ impl Monoid for Sl2 {
 
     fn empty() -> Sl2 {
         Sl2 {
-            a: 1,
-            b: 0,
-            c: 0,
-            d: 1,
+            a: Residue::ONE,
+            b: Residue::ZERO,
+            c: Residue::ZERO,
+            d: Residue::ONE,
         }
     }
 
@@ -39,10 +37,10 @@ impl Monoid for Sl2 {
 
     fn to_row(self) -> Entries {
         Entries {
-            a: self.a,
-            b: self.b,
-            c: self.c,
-            d: self.d,
+            a: self.a.get(),
+            b: self.b.get(),
+            c: self.c.get(),
+            d: self.d.get(),
         }
     }
 
@@ -59,46 +57,32 @@ impl Group for Sl2 {
     fn inverse(self) -> Sl2 {
         Sl2 {
             a: self.d,
-            b: negate(self.b),
-            c: negate(self.c),
+            b: -self.b,
+            c: -self.c,
             d: self.a,
         }
     }
 }
 
 impl Sl2 {
-    /// The value with these entries, if there is one.
+    /// The value with these entries, if there is one. An `Option` and no `TryFrom`, whose error would say no more.
     pub fn from_entries(e: Entries) -> Option<Sl2>
         ensures { Found e result }
     {
-        if !is_valid(e) {
+        let a = Residue::try_from(e.a).ok()?;
+        let b = Residue::try_from(e.b).ok()?;
+        let c = Residue::try_from(e.c).ok()?;
+        let d = Residue::try_from(e.d).ok()?;
+        if a * d != b.multiply_add(c, Residue::ONE) {
             return None;
         }
-        Some(Sl2 {
-            a: e.a,
-            b: e.b,
-            c: e.c,
-            d: e.d,
-        })
+        Some(Sl2 { a, b, c, d })
     }
 
-    /// Whether two values are equal.
+    /// Whether two values are equal. The contract says what `==` does not: equal values are the same value.
     pub fn equals(self, other: Sl2) -> bool
         ensures { MatchBool result (self ≡ other) (¬ (self ≡ other)) }
     {
-        same_entries(self.to_row(), other.to_row())
+        self == other
     }
-}
-
-fn same_entries(x: Entries, y: Entries) -> bool
-    ensures { MatchBool result (x ≡ y) (¬ (x ≡ y)) }
-{
-    x.a == y.a && x.b == y.b && x.c == y.c && x.d == y.d
-}
-
-/// Whether the entries are those of a value.
-fn is_valid(e: Entries) -> bool
-    ensures { MatchBool result (Conditions e) (¬ (Conditions e)) }
-{
-    e.a < P && e.b < P && e.c < P && e.d < P && multiply(e.a, e.d) == multiply_add(e.b, e.c, 1)
 }

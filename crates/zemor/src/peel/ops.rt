@@ -1,6 +1,5 @@
-ghost use Rattle.std.specs.Prelude.{◌≡◌, ◌+◌, ◌*◌, ◌^◌, ◌<◌, if◌then◌else◌, MatchBool, ◌≢◌};
-ghost use Rattle.zemor.specs.Matrix.{identity};
-ghost use Rattle.zemor.specs.Peeling.{Peels, First, Tells};
+ghost use Rattle.std.specs.Prelude.{◌≡◌, ◌+◌, ◌<◌, [], ◌∷◌, ◌++◌};
+ghost use Rattle.zemor.specs.Peeling.{spelled, Peels, First, Tells};
 
 use super::Bits;
 use crate::matrix::{Entries, Sl2};
@@ -9,10 +8,26 @@ use monoid::Monoid;
 /// The most bits whose product over whole numbers is surely below p.
 const MOST_BITS: u32 = 45;
 
-fn is_identity(m: Entries) -> bool
-    ensures { MatchBool result (m ≡ identity) (m ≢ identity) }
-{
-    m.a == 1 && m.b == 0 && m.c == 0 && m.d == 1
+impl Bits {
+    /// No bits.
+    fn new() -> Bits
+        ensures value { spelled result ≡ [] }
+        ensures len { result.len ≡ 0 }
+    {
+        Bits { word: 0, len: 0 }
+    }
+
+    /// One bit more, at the end.
+    fn push(self, bit: bool) -> Bits
+        requires { self.len < 45 }
+        ensures value { spelled result ≡ spelled self ++ (bit ∷ []) }
+        ensures len { result.len ≡ self.len + 1 }
+    {
+        Bits {
+            word: 2 * self.word + u64::from(bit),
+            len: self.len + 1,
+        }
+    }
 }
 
 /// The first bit of every string whose product over whole numbers is m, with the product of the others.
@@ -20,35 +35,22 @@ fn first_bit(m: Entries) -> Option<(bool, Entries)>
     ensures { First m result }
 {
     if m.c <= m.a && m.d <= m.b {
-        return Some((
-            false,
-            Entries {
-                a: m.a - m.c,
-                b: m.b - m.d,
-                c: m.c,
-                d: m.d,
-            },
-        ));
+        let rest = Entries {
+            a: m.a - m.c,
+            b: m.b - m.d,
+            ..m
+        };
+        Some((false, rest))
+    } else if m.a <= m.c && m.b <= m.d {
+        let rest = Entries {
+            c: m.c - m.a,
+            d: m.d - m.b,
+            ..m
+        };
+        Some((true, rest))
+    } else {
+        None
     }
-    if m.a <= m.c && m.b <= m.d {
-        return Some((
-            true,
-            Entries {
-                a: m.a,
-                b: m.b,
-                c: m.c - m.a,
-                d: m.d - m.b,
-            },
-        ));
-    }
-    None
-}
-
-fn with_bit(word: u64, bit: bool) -> u64
-    requires { word < 2 ^ 45 }
-    ensures { result ≡ 2 * word + (if bit then 1 else 0) }
-{
-    if bit { 2 * word + 1 } else { 2 * word }
 }
 
 /// The one string of at most 45 bits whose product over whole numbers is m, or none.
@@ -56,24 +58,16 @@ fn peel_entries(m: Entries) -> Option<Bits>
     ensures { Peels m result }
 {
     let mut left = m;
-    let mut word = 0;
-    for i in 0..MOST_BITS {
-        if is_identity(left) {
-            return Some(Bits { word, len: i });
-        }
-        let Some((bit, rest)) = first_bit(left) else {
+    let mut bits = Bits::new();
+    while left != Entries::IDENTITY {
+        if bits.len == MOST_BITS {
             return None;
-        };
-        word = with_bit(word, bit);
+        }
+        let (bit, rest) = first_bit(left)?;
+        bits = bits.push(bit);
         left = rest;
     }
-    if is_identity(left) {
-        return Some(Bits {
-            word,
-            len: MOST_BITS,
-        });
-    }
-    None
+    Some(bits)
 }
 
 /// The one string of at most 45 bits whose product is x, or none.

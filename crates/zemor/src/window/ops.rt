@@ -19,9 +19,9 @@ impl Window {
 
 /// The bytes that at most forty bits spell, a whole number of bytes.
 fn spelled_bytes(bits: Bits) -> Window
-    requires { bits.len ≤ 47 }
     ensures { window_text result ≡ digits_in 256 bits.word (bits.len / 8) }
 {
+    // The borrow checker does not cover `[_, _, _, bytes @ ..]` by value.
     let [_, _, _, a, b, c, d, e] = bits.word.to_be_bytes();
     Window {
         bytes: [a, b, c, d, e],

@@ -1,22 +1,27 @@
-use Rattle.std.proofs.Common.{◌++◌, get_or, decimal, sym, refl, ◌∙◌, arith, ltb-false, ltb-true}
-use Rattle.std.specs.Int.{IsInRange}
-use Rattle.netstring.proofs.Runs.{steps, too_long, only_length, some_from, above_limit}
+use Rattle.std.proofs.Common.{◌++◌, decimal, arith, ltb-false, ltb-true}
+use Rattle.netstring.specs.Netstring.{NoDigit}
+use Rattle.netstring.proofs.Runs.{steps, above, ends, some_from}
 use Rattle.netstring.proofs.read.further_digits.Goals as goal
 use Rattle.netstring.proofs.read.further_digits.Goals.{in_default, in_default-2, in_default-3}
 
-pub loop-rest-init : goal.loop-rest-init
-loop-rest-init c = (refl, omega arith, omega arith)
+pub returns-in_err-checked_mul : goal.returns-in_err-checked_mul
+returns-in_err-checked_mul c =
+    let t = steps (decimal c.args.front ++ c.args.text.now) c.loop-rest.rest.now c.loop-rest.n c.loop-rest.invariant.begins (omega arith) (omega arith) (omega arith) (omega arith) in
+    rw c.from_residual.ensures (above _ _ _ c.args.limit t (omega arith) (omega (arith, c.in_err-checked_mul.ensures)))
 
-pub returns-then-n-limit : goal.returns-then-n-limit
-returns-then-n-limit c = λ m z small nz is. too_long (decimal c.args.front ++ c.args.text.now) c.loop-rest.rest.now z c.loop-rest.n m c.args.limit (omega arith) (omega arith) c.loop-rest.invariant.0 (some_from c.loop-rest.rest.now (omega arith)) (omega arith) (omega arith) (omega arith) small nz is
+pub returns-in_err-n : goal.returns-in_err-n
+returns-in_err-n c =
+    let t = steps (decimal c.args.front ++ c.args.text.now) c.loop-rest.rest.now c.loop-rest.n c.loop-rest.invariant.begins (omega arith) (omega arith) (omega arith) (omega arith) in
+    rw c.from_residual-in_err-n.ensures (above _ _ _ c.args.limit t (omega arith) (omega (arith, c.in_ok-checked_mul.ensures, c.in_err-n.ensures)))
 
 pub loop-rest-preserved : goal.loop-rest-preserved
-loop-rest-preserved c = (steps (decimal c.args.front ++ c.args.text.now) c.loop-rest.rest.now c.loop-rest.n c.loop-rest.invariant.0 (omega arith) (some_from c.loop-rest.rest.now (omega arith)) (omega arith) (omega arith) (omega arith), omega arith, omega arith)
-
-pub returns-then-n-limit-2 : goal.returns-then-n-limit-2
-returns-then-n-limit-2 c = λ m z le nz e. above_limit c.loop-rest.n m c.args.limit (decimal c.args.front ++ c.args.text.now) c.loop-rest.rest.now z (omega arith) (omega arith) le nz c.loop-rest.invariant.0 e
+loop-rest-preserved c =
+    let t = steps (decimal c.args.front ++ c.args.text.now) c.loop-rest.rest.now c.loop-rest.n c.loop-rest.invariant.begins (omega arith) (omega arith) (omega arith) (omega arith) in
+    let m = c.in_ok-checked_mul.ensures in
+    let n = c.in_ok-n.ensures in
+    record { begins = rw (n.1, m.1) t; some = omega arith; fits = omega (arith, n.0, n.1) }
 
 pub returns : goal.returns
 returns c =
-    let no' : IsInRange 48 57 (get_or c.loop-rest.rest.now 0 0) → ⊥ = elim c.if-rest-lt1.branch [ in_default w ↦ (λ h. omega (arith, ltb-true, ltb-false, some_from c.loop-rest.rest.now h.0)) | in_default-2 w ↦ (λ h. omega (arith, ltb-true, ltb-false)) | in_default-3 w ↦ (λ h. omega (arith, ltb-true, ltb-false)) ] in
-    record { begins = c.loop-rest.invariant.0; within = omega arith; only = λ m z small nz e. only_length c.loop-rest.n m c.loop-rest.rest.now z (omega arith) (omega arith) no' nz (sym c.loop-rest.invariant.0 ∙ e) }
+    let no' : NoDigit c.loop-rest.rest.now = elim c.if-rest-lt1.branch [ in_default w ↦ (λ h. omega (arith, ltb-true, ltb-false, some_from c.loop-rest.rest.now h.0)) | in_default-2 w ↦ (λ h. omega (arith, ltb-true, ltb-false)) | in_default-3 w ↦ (λ h. omega (arith, ltb-true, ltb-false)) ] in
+    rw c.then_some.ensures (ends (decimal c.args.front ++ c.args.text.now) c.loop-rest.rest c.loop-rest.n c.args.limit c.loop-rest.invariant.begins (omega arith) (omega arith) no')

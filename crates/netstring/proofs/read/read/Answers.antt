@@ -1,27 +1,37 @@
-use Rattle.std.proofs.Common.{◌≡◌, ◌<◌, length, get_or, arith, ltb-false, ltb-true}
-use Rattle.netstring.proofs.Runs.{some_from}
-use Rattle.netstring.proofs.Fronts.{none_beyond, none_length, none_colon, none_comma, fits, stands_there, from}
+use Rattle.std.proofs.Common.{[], ◌∷◌, ◌++◌, length, drop, sym, ap, ◌∙◌, None, Some, arith, length-append}
+use Rattle.std.proofs.lemmas.Bool.Decides.{Decides-eqb}
+use Rattle.std.proofs.lemmas.List.{take_rest, length-drop}
+use Rattle.std.proofs.lemmas.Slice.Eq.{strip_prefix_is}
+use Rattle.netstring.proofs.Fronts.{shorter, no_run, behind_run, cut, stands_there}
 use Rattle.netstring.proofs.read.read.Goals as goal
-use Rattle.netstring.proofs.read.read.Goals.{in_default-rest-via-then-rest-lt1, in_default-rest-via-else-rest-lt1+in_default-1, then-n-more-via-then-n-more, then-n-more-via-else-n-more+then-more-n-ne44}
 
-pub returns-then-at-text : goal.returns-then-at-text
-returns-then-at-text c = none_beyond c.args.text.now c.args.at (omega arith)
+pub returns-in_err-here : goal.returns-in_err-here
+returns-in_err-here c = rw c.from_residual.ensures (λ d t e. omega (arith, shorter (drop c.args.at c.args.text.now) d t e, length-drop c.args.at c.args.text.now, c.in_err-here.ensures.lookup))
 
-pub returns-in_default : goal.returns-in_default
-returns-in_default c = none_length c.args.text.now c.args.at c.in_default.ensures
+pub returns-in_err-n : goal.returns-in_err-n
+returns-in_err-n c =
+    let e = c.in_ok-here.ensures.lookup.0.2 ∙ take_rest c.args.text.now c.args.at in
+    rw c.from_residual-in_err-n.ensures (λ d t x. no_run c.in_ok-here.here.now c.in_err-n.ensures d t (e ∙ x))
 
-pub returns-in_default-rest : goal.returns-in_default-rest
-returns-in_default-rest c =
-    let no' : get_or c.in-Some.rest.now 0 0 ≡ 58 → ⊥ = λ e. elim c.in_default-rest.branch [ in_default-rest-via-then-rest-lt1 w ↦ omega (arith, ltb-true, ltb-false, some_from c.in-Some.rest.now (omega (arith, e))) | in_default-rest-via-else-rest-lt1+in_default-1 w ↦ omega (arith, e) ] in
-    none_colon c.args.text.now c.args.at c.in-Some.n c.in-Some.rest.now c.in-Some.ensures no'
+pub returns-in_err-strip_prefix : goal.returns-in_err-strip_prefix
+returns-in_err-strip_prefix c =
+    let e = c.in_ok-here.ensures.lookup.0.2 ∙ take_rest c.args.text.now c.args.at in
+    rw c.from_residual-in_err-strip_prefix.ensures (λ d t x. strip_prefix_is Decides-eqb c.in_ok-n.rest.now (58 ∷ []) None c.in_err-strip_prefix.ensures.cases (d ++ (44 ∷ t)) (behind_run c.in_ok-here.here.now c.in_ok-n.rest.now c.in_ok-n.n c.in_ok-n.ensures d t (e ∙ x)).1)
 
-pub returns-then-n-more : goal.returns-then-n-more
-returns-then-n-more c =
-    let no' : c.in-Some.n < length (from c.in-Some.rest.now 1) → get_or (from c.in-Some.rest.now 1) c.in-Some.n 0 ≡ 44 → ⊥ = λ h e. elim c.then-n-more.branch [ then-n-more-via-then-n-more w ↦ omega (arith, h) | then-n-more-via-else-n-more+then-more-n-ne44 w ↦ omega (arith, e, w.if-more-n-ne44.true) ] in
-    none_comma c.args.text.now c.args.at c.in-Some.n c.in-Some.rest.now c.in-Some.ensures no'
+pub returns-in_err-content : goal.returns-in_err-content
+returns-in_err-content c =
+    let e = c.in_ok-here.ensures.lookup.0.2 ∙ take_rest c.args.text.now c.args.at in
+    rw c.from_residual-in_err-content.ensures (λ d t x. let o = behind_run c.in_ok-here.here.now c.in_ok-n.rest.now c.in_ok-n.n c.in_ok-n.ensures d t (e ∙ x) in omega (arith, o.0, ap length o.1, length-append d (44 ∷ t), c.in_ok-strip_prefix.ensures.cases, c.in_err-content.ensures.cases))
 
-pub overflow_sub-result : goal.overflow_sub-result
-overflow_sub-result c = fits c.args.text.now c.args.at c.in-Some.n c.in-Some.rest.now c.in-Some.ensures (omega arith) (omega arith) (some_from c.in-Some.rest.now (omega arith))
+pub returns-in_err-behind : goal.returns-in_err-behind
+returns-in_err-behind c =
+    let e = c.in_ok-here.ensures.lookup.0.2 ∙ take_rest c.args.text.now c.args.at in
+    rw c.from_residual-in_err-behind.ensures (λ d t x. let o = cut c.in_ok-n.rest.now c.in_ok-strip_prefix.field-0.now d t c.in_ok-n.n c.in_ok-strip_prefix.ensures.cases.1 (behind_run c.in_ok-here.here.now c.in_ok-n.rest.now c.in_ok-n.n c.in_ok-n.ensures d t (e ∙ x)) in strip_prefix_is Decides-eqb c.in_ok-content.rest.now (44 ∷ []) None c.in_err-behind.ensures.cases t (c.in_ok-content.ensures.cases.2 ∙ o.1))
 
 pub returns : goal.returns
-returns c = stands_there c.args.text.now c.args.at c.in-Some.n c.in-Some.rest.now c.in-Some.ensures (omega arith) (omega arith) (some_from c.in-Some.rest.now (omega arith)) (omega arith) (omega arith)
+returns c =
+    let e = c.in_ok-here.ensures.lookup.0.2 ∙ take_rest c.args.text.now c.args.at in
+    let colon = strip_prefix_is Decides-eqb c.in_ok-n.rest.now (58 ∷ []) (Some c.in_ok-strip_prefix.field-0) c.in_ok-strip_prefix.ensures.cases in
+    let comma = strip_prefix_is Decides-eqb c.in_ok-content.rest.now (44 ∷ []) (Some c.in_ok-behind.behind) c.in_ok-behind.ensures.cases in
+    let k = c.in_ok-content.ensures.cases in
+    rw k.1 (stands_there c.args.text.now c.in_ok-here.here.now c.in_ok-n.rest.now c.in_ok-strip_prefix.field-0.now c.in_ok-behind.behind.now c.args.at c.in_ok-n.n c.in_ok-here.ensures.lookup.0.0 e c.in_ok-n.ensures colon c.in_ok-strip_prefix.ensures.cases.1 k.0 (sym k.2 ∙ comma))

@@ -6,33 +6,31 @@ use Rattle.shelf_promise.proofs.Running.{Going, gone, going_next, fresh_going, f
 use Rattle.shelf_promise.proofs.replay.replay.Goals as goal
 
 pub loop-i-init : goal.loop-i-init
-loop-i-init g c = (fresh_going g.M.Monoid.model c.new-shelf.result _ _ _ _ _ c.new-shelf.ensures, refl, fresh_untouched g.M.Monoid.model c.new-shelf.result _ _ _ _ _ c.new-shelf.ensures)
+loop-i-init g c = (fresh_going c.new-shelf.result _ _ _ _ _ c.new-shelf.ensures, refl, fresh_untouched c.new-shelf.result _ _ _ _ _ c.new-shelf.ensures)
 
 pub loop-i-preserved : goal.loop-i-preserved
 loop-i-preserved g c =
-    let m = g.M.Monoid.model in
     let b = brought (parts c.new-shelf.result) in
     let calls = c.args.calls.now in
     let xs = c.loop-i.answers in
     let i = c.loop-i.i in (
-      going_next m b calls xs i (Put (record { ref_ptr = (0, 0); now = [] })) c.apply.result c.loop-i.shelf c.apply.new.self c.loop-i-test.true (omega arith) c.loop-i.invariant.0 c.apply.ensures,
+      going_next b calls xs i (Put (record { ref_ptr = (0, 0); now = [] })) c.apply.result c.loop-i.shelf c.apply.new.self c.loop-i-test.true (omega arith) c.loop-i.invariant.0 c.apply.ensures,
       drop-set-lt (length calls) xs i c.apply.result c.loop-i-test.true ∙ c.loop-i.invariant.1,
-      untouched_step m _ _ _ c.loop-i.shelf c.apply.new.self _ c.apply.result _ c.apply.ensures c.loop-i.invariant.2,
+      untouched_step _ _ _ c.loop-i.shelf c.apply.new.self _ c.apply.result _ c.apply.ensures c.loop-i.invariant.2,
     )
 
 pub returns : goal.returns
 returns g c =
-    let m = g.M.Monoid.model in
     let s = c.loop-i.shelf in
     let calls = c.args.calls.now in
     let xs = c.loop-i.answers in
     let is : c.loop-i.i ≡ length calls = omega arith in
-    let memory = fresh_memory m c.new-shelf.result _ _ _ _ _ c.new-shelf.ensures in
-    let all : Going m (brought (parts c.new-shelf.result)) (take (length calls) calls) (take (length calls) xs) s =
-    subst (λ (n : ℕ). Going m (brought (parts c.new-shelf.result)) (take n calls) (take n xs) s) is c.loop-i.invariant.0 in
-    let whole = subst (λ z. Going m (brought (parts c.new-shelf.result)) z (take (length calls) xs) s) (take_all (length calls) calls (omega arith)) all in (
+    let memory = fresh_memory c.new-shelf.result _ _ _ _ _ c.new-shelf.ensures in
+    let all : Going (brought (parts c.new-shelf.result)) (take (length calls) calls) (take (length calls) xs) s =
+    subst (λ (n : ℕ). Going (brought (parts c.new-shelf.result)) (take n calls) (take n xs) s) is c.loop-i.invariant.0 in
+    let whole = subst (λ z. Going (brought (parts c.new-shelf.result)) z (take (length calls) xs) s) (take_all (length calls) calls (omega arith)) all in (
       c.if-answers-calls.false,
-      gone m g.met.M.Monoid.lawful _ calls (take (length calls) xs) s (subst (λ z. Going m z calls (take (length calls) xs) s) memory whole),
+      gone g.M.Monoid.model g.met.M.Monoid.lawful _ calls (take (length calls) xs) s s.store.summed (subst (λ z. Going z calls (take (length calls) xs) s) memory whole),
       c.loop-i.invariant.1,
-      untouched_brought m c.new-shelf.result _ _ _ _ _ c.new-shelf.ensures (parts s) c.loop-i.invariant.2,
+      untouched_brought c.new-shelf.result _ _ _ _ _ c.new-shelf.ensures (parts s) c.loop-i.invariant.2,
     )

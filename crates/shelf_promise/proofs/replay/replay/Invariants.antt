@@ -6,6 +6,6 @@ use Rattle.shelf_promise.proofs.replay.replay.Given as goal
 
 abbrev pub invariant-loop-i : goal.invariant-loop-i
 invariant-loop-i g l =
-    Going g.M.Monoid.model (brought (parts l.initial.shelf)) (take l.i l.calls) (take l.i l.answers) l.shelf
+    Going (brought (parts l.initial.shelf)) (take l.i l.calls) (take l.i l.answers) l.shelf
     × (drop (length l.calls) l.answers ≡ drop (length l.calls) l.initial.answers)
-    × Untouched (parts l.shelf) l.initial.shelf.store.added.now l.initial.shelf.store.records.now l.initial.shelf.places.places.now
+    × Untouched (parts l.shelf) l.initial.shelf.store.added.memory.now l.initial.shelf.store.records.memory.now l.initial.shelf.places.memory.now

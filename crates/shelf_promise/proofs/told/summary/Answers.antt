@@ -8,5 +8,5 @@ pub returns : goal.returns
 returns g c b calls answers w =
     let m = g.M.Monoid.model in
     subst (DocumentFolds m c.args.d c.summary.result) w.state
-    (document_folds m c.args.d c.summary.result (shelved (parts c.args.shelf.now)) w.summed
+    (document_folds m c.args.d c.summary.result (shelved (parts c.args.shelf.now))
     (subst (DocumentTold m c.args.d c.summary.result) c.view.ensures c.summary.ensures))

@@ -1,6 +1,12 @@
-use Rattle.zemor.proofs.Products.{within, tells, edge}
+use Rattle.zemor.proofs.Products.{within, tells}
 use Rattle.zemor.proofs.Texts.{slips_show}
 use Rattle.zemor.proofs.text.products_stand.Goals as goal
 
-pub returns : goal.returns
-returns c = record { bounded = within; apart = tells; edge = edge; slips = slips_show }
+pub returns-clause-bounded : goal.returns-clause-bounded
+returns-clause-bounded c = within
+
+pub returns-clause-apart : goal.returns-clause-apart
+returns-clause-apart c = tells
+
+pub returns-clause-slips : goal.returns-clause-slips
+returns-clause-slips c = slips_show

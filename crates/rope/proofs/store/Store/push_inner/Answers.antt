@@ -9,14 +9,11 @@ overflow_add-max g c =
     let s = c.args.self.now in
     let l = c.record-l.ensures in
     let r = c.record-r.ensures in
-    omega (arith, c.max.ensures, l.high, r.high, height_small (tree_of s c.args.left) l.lawful_tree (omega (arith, c.requires.pairs.short)), height_small (tree_of s c.args.right) r.lawful_tree (omega (arith, c.requires.pairs.short)))
+    omega (arith, c.max.ensures, l.high, r.high, height_small (tree_of s c.args.left) l.lawful_tree (omega (arith, c.requires.short)), height_small (tree_of s c.args.right) r.lawful_tree (omega (arith, c.requires.short)))
 
 pub push-requires : goal.push-requires
 push-requires g c =
     let m = g.M.Monoid.model in
-    record {
-      valid = c.requires.valid;
-      fine = inner_fine m g.met.M.Monoid.lawful c.args.self.now c.args.left c.args.right c.requires.pairs
-          c.record-l.result c.record-r.result c.max.result c.to_row-row.result c.record-l.ensures c.record-r.ensures c.max.ensures
-          (c.to_row-row.ensures ∙ ap m.row (rw (c.from_row.ensures, c.from_row-2.ensures) at c.join.ensures));
-    }
+    inner_fine m g.met.M.Monoid.lawful c.args.self.now c.args.left c.args.right c.requires
+    c.record-l.result c.record-r.result c.max.result c.to_row-row.result c.record-l.ensures c.record-r.ensures c.max.ensures
+    (c.to_row-row.ensures ∙ ap m.row (rw (c.from_row.ensures, c.from_row-2.ensures) at c.join.ensures))

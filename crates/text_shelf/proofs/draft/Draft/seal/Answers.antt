@@ -1,31 +1,31 @@
-use Rattle.std.proofs.Common.{refl}
+use Rattle.std.proofs.Common.{refl, arith}
 use Rattle.shelf_view.proofs.Firsts.{first_none}
 use Rattle.text_shelf.specs.Shelves.{parts, brought, told, strings}
 use Rattle.text_shelf.specs.Calls.{reasons}
 use Rattle.text_shelf.specs.declared.call.Call.TheVariants.{Seal}
-use Rattle.text_shelf.proofs.Appending.{firm_of, ghosts, unspent}
+use Rattle.text_shelf.proofs.Appending.{ghosts, unspent}
 use Rattle.text_shelf.proofs.Drafting.{firm_sealed, seal_step}
 use Rattle.text_shelf.proofs.draft.Draft.seal.Goals as goal
 
 pub push-requires : goal.push-requires
 push-requires g c =
     let s = parts c.args.shelf.now in
-    (unspent s (firm_of c.args.shelf.now) (first_none (reasons (brought s) (told s) (strings s) (Seal c.args.self.id)) c.in-Ok.ensures.0).1.0).0
+    (omega arith, unspent s (first_none (reasons (brought s) (told s) (strings s) (Seal c.args.self.id)) c.in-Ok.ensures.0).1.0)
 
 pub invariant_of-shelf : goal.invariant_of-shelf
 invariant_of-shelf g c =
     let draft = c.in-Ok.ensures in
-    let push = c.push.ensures in
+    let push = c.push.ensures.gains in
     ghosts (firm_sealed g.M.Monoid.model c.args.shelf.now c.args.self.id c.in-Ok.root c.push.new.self draft.0 draft.1
-    (record { count = push.count; kept_is = push.kept; fills = push.fills }))
+    push)
 
 pub returns-in-Ok : goal.returns-in-Ok
 returns-in-Ok g c =
     let draft = c.in-Ok.ensures in
-    let push = c.push.ensures in
+    let push = c.push.ensures.gains in
     record {
       step =
           seal_step g.M.Monoid.model c.args.shelf.now c.args.self.id c.in-Ok.root c.push.new.self draft.0 draft.1
-          (record { count = push.count; kept_is = push.kept; fills = push.fills }) _ c.push.result refl push.value;
+          push _ c.push.result refl c.push.ensures.value;
       back = tt;
     }

@@ -12,20 +12,20 @@ returns-in_err-part g c =
     let p = err_from_is_err_and c.from_residual.result c.from_residual.ensures.1 in
     rw (p.1, p.2) (cut_refused (brought s) (told s) (shown c.view-view.result) (shelved s) c.view-view.ensures c.args.d c.args.from c.args.to _ c.in_err-part.ensures)
 
-pub returns-in-Some : goal.returns-in-Some
-returns-in-Some g c =
+pub returns-in_err-memory_for_edit : goal.returns-in_err-memory_for_edit
+returns-in_err-memory_for_edit g c =
     let s = parts c.args.self.now in
-    let high = c.in_ok-high.ensures.1.0 ∙ ap (λ z. get_or (heights_of z) c.args.d 0) c.view-view.ensures in
-    cut_decided (brought s) (told s) (shown c.view-view.result) (shelved s) c.view-view.ensures c.args.d c.args.from c.args.to c.in_ok-high.high _
-    c.in_ok-part.ensures.0 high c.in-Some.ensures
+    let same = c.view-view.ensures in
+    let high = c.in_ok-height.ensures.1.0 ∙ ap (λ z. get_or (heights_of z) c.args.d 0) same in
+    let p = err_from_is_err_and c.from_residual-in_err-memory_for_edit.result c.from_residual-in_err-memory_for_edit.ensures.1 in
+    rw (p.1, p.2) (cut_decided (brought s) (told s) (shown c.view-view.result) (shelved s) same c.args.d c.args.from c.args.to _ _ c.in_ok-part.ensures.0 high c.in_err-memory_for_edit.ensures)
 
-pub returns-in-None : goal.returns-in-None
-returns-in-None g c =
+pub returns : goal.returns
+returns g c =
     let s = parts c.args.self.now in
     let same = c.view-view.ensures in
     let part = c.in_ok-part.ensures in
-    let high = c.in_ok-high.ensures.1.0 ∙ ap (λ z. get_or (heights_of z) c.args.d 0) same in (
-      cut_decided (brought s) (told s) (shown c.view-view.result) (shelved s) same c.args.d c.args.from c.args.to c.in_ok-high.high _
-          part.0 high c.in-None.ensures,
+    let high = c.in_ok-height.ensures.1.0 ∙ ap (λ z. get_or (heights_of z) c.args.d 0) same in (
+      cut_decided (brought s) (told s) (shown c.view-view.result) (shelved s) same c.args.d c.args.from c.args.to _ _ part.0 high c.in_ok-memory_for_edit.ensures.0,
       subst (λ z. Span g.M.Monoid.model z c.args.d c.args.from c.args.to c.in_ok-part.part) same part.1,
     )

@@ -1,28 +1,28 @@
-use Rattle.std.proofs.Common.{refl}
+use Rattle.std.proofs.Common.{refl, arith}
 use Rattle.text_shelf.specs.Shelves.{parts, brought, told, strings}
 use Rattle.text_shelf.specs.declared.call.Call.TheVariants.{Splice}
-use Rattle.text_shelf.proofs.Appending.{appended_step, firm_of, ghosts, unspent, splice_fits}
+use Rattle.text_shelf.proofs.Appending.{appended_step, ghosts, unspent, splice_fits}
 use Rattle.text_shelf.proofs.Editing.{splice_appends}
 use Rattle.text_shelf.proofs.shelf.Shelf.splice.Goals as goal
 
 pub push-requires : goal.push-requires
 push-requires g c =
     let s = parts c.args.self.now in
-    (unspent s (firm_of c.args.self.now) (splice_fits (brought s) (told s) (strings s) c.args.d c.args.from c.args.to c.args.other c.in_ok-part.ensures.0).free).0
+    (omega arith, unspent s (splice_fits (brought s) (told s) (strings s) c.args.d c.args.from c.args.to c.args.other c.in_ok-part.ensures.0).free)
 
 pub invariant_of-self : goal.invariant_of-self
 invariant_of-self g c =
     let both = c.in_ok-part.ensures in
-    let push = c.push.ensures in
+    let push = c.push.ensures.gains in
     ghosts (splice_appends g.M.Monoid.model c.args.self.now c.splice-root.new.store c.push.new.self c.splice-root.result
-    (record { count = push.count; kept_is = push.kept; fills = push.fills }) c.args.d c.args.from c.args.to c.in_ok-part.part both.1.0
+    push c.args.d c.args.from c.args.to c.in_ok-part.part both.1.0
     c.args.other c.in_ok-part.more both.1.1 both.0 c.splice-root.ensures).firm
 
 pub returns : goal.returns
 returns g c =
     let both = c.in_ok-part.ensures in
-    let push = c.push.ensures in
-    appended_step g.M.Monoid.model c.args.self.now _ (Splice c.args.d c.args.from c.args.to c.args.other) c.push.result _ both.0 push.value refl refl
+    let push = c.push.ensures.gains in
+    appended_step c.args.self.now _ (Splice c.args.d c.args.from c.args.to c.args.other) _ _ both.0 c.push.ensures.value refl refl
     (splice_appends g.M.Monoid.model c.args.self.now c.splice-root.new.store c.push.new.self c.splice-root.result
-    (record { count = push.count; kept_is = push.kept; fills = push.fills }) c.args.d c.args.from c.args.to c.in_ok-part.part both.1.0
+    push c.args.d c.args.from c.args.to c.in_ok-part.part both.1.0
     c.args.other c.in_ok-part.more both.1.1 both.0 c.splice-root.ensures)

@@ -1,15 +1,33 @@
-use Rattle.std.proofs.Common.{◌∙◌, lit<}
+use Rattle.std.proofs.Common.{◌≡◌, ℕ, ◌<◌, [], get_or, refl, ap, ◌∙◌, arith}
+use Rattle.zemor.specs.Matrix.{matrix}
+use Rattle.zemor.specs.Bits.{byte_product}
 use Rattle.zemor.specs.Values.{sl2}
 use Rattle.zemor.specs.Laws.{same, like, four}
-use Rattle.zemor.proofs.Table.{place, place_first}
+use Rattle.zemor.specs.declared.matrix.table.TheConstants.{TABLE}
+use Rattle.zemor.proofs.Table.{rows_from, in_order, rule}
 use Rattle.zemor.proofs.matrix.table.of_byte.Goals as goal
+use Rattle.zemor.proofs.matrix.table.of_byte.Goals.{After-from-4}
+
+-- the checker computes the rows of the rule, and finds the table's 1,024 numbers in them
+whole : TABLE ≡ rows_from 0 256
+unfolding rows_from byte_product
+whole = refl
+
+row_at : (k : ℕ) → k < 256 → get_or TABLE k [] ≡ in_order (byte_product k)
+row_at k h = ap (λ t. get_or t k []) whole ∙ rule k h
+
+entries : (c : After-from-4) → matrix c.from.result.n c.from-2.result.n c.from-3.result.n c.from-4.result.n ≡ byte_product c.args.byte
+entries c =
+    let k = c.args.byte in
+    let r = row_at k (omega arith) in
+    four _ (byte_product k)
+    (c.from.ensures ∙ ap (λ w. get_or w 0 0) r)
+    (c.from-2.ensures ∙ ap (λ w. get_or w 1 0) r)
+    (c.from-3.ensures ∙ ap (λ w. get_or w 2 0) r)
+    (c.from-4.ensures ∙ ap (λ w. get_or w 3 0) r)
 
 pub invariant_of-result : goal.invariant_of-result
-invariant_of-result c =
-    let k = c.args.byte in
-    record { valid = like (sl2.of_byte k) _ (four _ _ (c.at.ensures ∙ place_first k) (c.at-2.ensures ∙ place k 1 (lit< tt)) (c.at-3.ensures ∙ place k 2 (lit< tt)) (c.at-4.ensures ∙ place k 3 (lit< tt))) }
+invariant_of-result c = record { valid = (like (sl2.of_byte c.args.byte) _ (entries c)).1.1 }
 
 pub returns : goal.returns
-returns c =
-    let k = c.args.byte in
-    same _ _ (four _ _ (c.at.ensures ∙ place_first k) (c.at-2.ensures ∙ place k 1 (lit< tt)) (c.at-3.ensures ∙ place k 2 (lit< tt)) (c.at-4.ensures ∙ place k 3 (lit< tt)))
+returns c = same _ _ (entries (goal.at.returns c).After-from-4)

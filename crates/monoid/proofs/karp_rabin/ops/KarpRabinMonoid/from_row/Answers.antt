@@ -1,9 +1,7 @@
-use Rattle.std.proofs.Common.{sym, refl, ◌∙◌}
-use Rattle.monoid.specs.KarpRabinLaws.{same, told, told_none}
+use Rattle.std.proofs.Common.{unwrap_or, ap, ◌∙◌}
+use Rattle.monoid.specs.KarpRabinLaws.{told_or}
 use Rattle.monoid.proofs.karp_rabin.ops.KarpRabinMonoid.from_row.Goals as goal
 
-pub returns-then-not-is_valid : goal.returns-then-not-is_valid
-returns-then-not-is_valid c = same _ _ refl refl refl ∙ sym (told_none c.args.row c.if-not-is_valid.ensures)
-
 pub returns : goal.returns
-returns c = sym (told _)
+returns c =
+    c.unwrap_or.ensures ∙ ap (unwrap_or c.checked.result) c.empty.ensures ∙ told_or c.args.row c.checked.result c.checked.ensures
