@@ -1,4 +1,7 @@
 //! What a record holds, and where a text's tree is.
+ghost use Rattle.std.specs.Prelude.{◌≡◌};
+ghost use Rattle.rope.specs.declared.record.Source.TheVariants.{Build};
+ghost use Rattle.rope.specs.declared.record.Shape.TheVariants.{Leaf};
 
 /// The text that a leaf is a part of.
 #[derive(Clone, Copy)]
@@ -30,6 +33,23 @@ pub struct Record<R> {
     pub length: u32,
     pub height: u8,
     pub row: R,
+}
+
+impl<R> Record<R> {
+    /// A record for memory that is lent: nothing reads it before it is written.
+    pub fn blank(row: R) -> Record<R>
+        ensures { result ≡ record { shape = Leaf Build 0; length = 0; height = 0; row = row } }
+    {
+        Record {
+            shape: Shape::Leaf {
+                source: Source::Build,
+                start: 0,
+            },
+            length: 0,
+            height: 0,
+            row,
+        }
+    }
 }
 
 /// Where a text's tree is: nowhere for the empty text, or at a record.

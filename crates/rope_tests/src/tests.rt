@@ -6,7 +6,7 @@ use monoid::fold::fold;
 use monoid::karp_rabin::{KarpRabin, KarpRabinRow};
 use monoid::line_column::LineColumn;
 use monoid::pair::Pair;
-use rope::record::{Record, Root, Shape, Source};
+use rope::record::{Record, Root};
 use rope::store::Store;
 use rope_cut::{cut, splice};
 use rope_keep::{keep, lengthen, take_part};
@@ -67,23 +67,11 @@ const MARKED: Pair<LineColumn, KarpRabinRow> = Pair {
     second: KarpRabinRow { h: 0, w: 1, v: 1 },
 };
 
-fn blank<R>(row: R) -> Record<R> {
-    Record {
-        shape: Shape::Leaf {
-            source: Source::Build,
-            start: 0,
-        },
-        length: 0,
-        height: 0,
-        row,
-    }
-}
-
 #[test]
 fn adds_and_cuts(rt: HostRuntime) {
     let build = [0u8; 1];
     let mut added = [0u8; 16];
-    let mut records = [blank(LINE); 600];
+    let mut records = [Record::blank(LINE); 600];
     let mut store: Store<LineColumn> = Store::new(&build, &mut added, &mut records);
     let short = keep(&mut store, b"one\n");
     let long = lengthen(&mut store, short, b"two");
@@ -103,7 +91,7 @@ fn splices_a_text_into_itself(rt: HostRuntime) {
     build[320] = 3;
     build[639] = 4;
     let mut added = [0u8; 1];
-    let mut records = [blank(MARKED); 300];
+    let mut records = [Record::blank(MARKED); 300];
     let mut store: Store<Pair<LineColumn, KarpRabin>> = Store::new(
         &build,
         &mut added,

@@ -1,8 +1,9 @@
 //! Documents and drafts on a plain shelf.
 use crate::calls::{add, cut, first_wrong, splice};
-use crate::memory::{LINE, blank};
+use crate::memory::LINE;
 use monoid::Monoid;
 use monoid::line_column::LineColumn;
+use rope::record::Record;
 use shelf_view::draft_id::DraftId;
 use shelf_view::refusal::Refusal;
 use text_shelf::call::Call;
@@ -51,7 +52,7 @@ const TEXTS: [(u32, &[u8]); 6] = [
 #[test]
 fn documents_stay(rt: HostRuntime) {
     let mut added = [0u8; 20];
-    let mut records = [blank(LINE); 300];
+    let mut records = [Record::blank(LINE); 300];
     let mut places = [None; 5];
     let mut shelf: Shelf<LineColumn> = Shelf::new(b"", &mut added, &mut records, &mut places, 5);
     let edits = [

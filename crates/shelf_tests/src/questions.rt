@@ -1,7 +1,8 @@
 //! Questions, on a marked shelf.
-use crate::memory::{MARKED, blank};
+use crate::memory::MARKED;
 use monoid::line_column::LineColumn;
 use monoid::pair::Pair;
+use rope::record::Record;
 use shelf_view::refusal::Refusal;
 use shelf_view::sameness::Sameness;
 use std::test::Fail;
@@ -131,7 +132,7 @@ static CASES: [(usize, &[Row]); 3] = [
 #[test]
 fn reads_back_and_copies(rt: HostRuntime) -> Result<(), Fail> {
     let mut added = [0u8; 2];
-    let mut records = [blank(MARKED); 2];
+    let mut records = [Record::blank(MARKED); 2];
     let mut places = [None; 1];
     let mut shelf: Shelf<Marked> = Shelf::new(b"", &mut added, &mut records, &mut places, 1);
     shelf.put(b"ab")?;
@@ -163,7 +164,7 @@ const COMPARED: [(usize, u32, usize, usize, Result<Sameness, u8>); 8] = [
 
 #[test]
 fn compares(rt: HostRuntime) -> Result<(), Fail> {
-    let mut records = [blank(MARKED); 2];
+    let mut records = [Record::blank(MARKED); 2];
     let mut places = [None; 1];
     let mut shelf: Shelf<Marked> = Shelf::new(
         b"abcdefabcdeg",

@@ -1,7 +1,8 @@
 //! Every call's refusals at their edges.
 use crate::calls::{Row, add, cut, first_wrong, splice, take};
-use crate::memory::{LINE, blank};
+use crate::memory::LINE;
 use monoid::line_column::LineColumn;
+use rope::record::Record;
 use shelf_view::draft_id::DraftId;
 use shelf_view::refusal::Refusal;
 use std::test::Fail;
@@ -26,7 +27,7 @@ struct Case<'c> {
 
 // The row of the first call that is answered otherwise.
 fn wrong_row<'c>(case: &Case<'c>) -> Option<usize> {
-    let mut records = [blank(LINE); 200];
+    let mut records = [Record::blank(LINE); 200];
     let mut added = [0u8; 4096];
     let mut places = [None; 8];
     let mut shelf: Shelf<LineColumn> = Shelf::new(
@@ -226,7 +227,7 @@ fn plain(n: usize) -> usize {
 fn most_is_used(rt: HostRuntime) -> Result<(), Fail> {
     let heap = rt.alloc();
     let build = vec![in heap; b'x'; plain(1048577)]?;
-    let mut records = vec![in heap; blank(LINE); plain(65540)]?;
+    let mut records = vec![in heap; Record::blank(LINE); plain(65540)]?;
     let mut places = vec![in heap; None; plain(4096)]?;
     let mut shelf: Shelf<LineColumn> = Shelf::new(&build, &mut [], &mut records, &mut places, 7);
     let most = [

@@ -1,0 +1,5 @@
+pub mod Writing
+pub mod Parts
+pub mod Calling
+pub mod Telling
+pub mod Turning

@@ -1,0 +1,52 @@
+-- Turns of a script.
+use Rattle.std.proofs.Common.{◌≡◌, ℕ, ◌<◌, List, [], ◌++◌, length, take, drop, Some, None, Ok, Err, Option, Result, sym, ap, ◌∙◌, subst, append_assoc, append-nil, arith}
+use Rattle.std.specs.Io.KnownBytes.{Appends}
+use Rattle.std.proofs.lemmas.List.{take_at}
+use Rattle.decimal.specs.Decimal.{Copied}
+use Rattle.netstring.proofs.Puts.{long}
+use Rattle.shelf_view.specs.declared.refusal.Refusal.{Refusal}
+use Rattle.text_shelf.specs.declared.shelf.Shelf.{Shelf}
+use Rattle.script.specs.Calls.{content, Reads, Misread}
+use Rattle.script.specs.Calls.Misread.{no_netstring, no_call}
+use Rattle.script.specs.Answers.{Says, Wrote, Turn, answer}
+use Rattle.script.specs.Answers.Turn.{over, answered}
+use Rattle.script.specs.declared.call.Call.{Call}
+use Rattle.script.proofs.Parts.{spans}
+
+module _ {V R : Type 0} {kind : _} (script : List ℕ) (i : ℕ) (s t : Shelf V R kind) (call : Result Call Refusal) (j : ℕ) where
+  -- a call that is answered,
+  pub turned : (said : Result (List ℕ) Refusal) (n : ℕ) (was is : List ℕ) → i < length script → Reads script i call j → Says s call said t → Wrote said was (Ok n) is
+      → (a : List ℕ) × (Turn script i s a j t × Copied a was (Some n) is)
+  turned (Ok text) n was is h r y w = (answer i (Ok text), (answered call (Ok text) h r y, w))
+  turned (Err e) n was is h r y w = absurd w
+
+  -- and one that is refused
+  pub turned_away : (said : Result (List ℕ) Refusal) (why : Refusal) (was is : List ℕ) (n : ℕ) (new : List ℕ) → i < length script → Reads script i call j → Says s call said t
+      → Wrote said was (Err why) is → Copied (answer i (Err why)) is (Some n) new → (a : List ℕ) × (Turn script i s a j t × Copied a was (Some n) new)
+  turned_away (Ok text) why was is n new h r y w z = absurd w
+  turned_away (Err e) why was is n new h r y w z =
+      (answer i (Err e), (answered call (Err e) h r y, subst (λ x. Copied (answer i (Err x)) was (Some n) new) w.0 (subst (λ x. Copied (answer i (Err why)) x (Some n) new) w.1 z)))
+
+-- each turn goes on behind its place
+pub goes_on : {V R : Type 0} {kind : _} (script : List ℕ) (i : ℕ) (s : Shelf V R kind) (a : List ℕ) (j : ℕ) (t : Shelf V R kind) → i < length script → Turn script i s a j t → i < j
+goes_on script i s a j t h (over k) = absurd (omega arith)
+goes_on script i s a j t h (answered (Ok k) said l r y) = omega (arith, spans script (content k) i j r.stands, long (content k))
+goes_on script i s a j t h (answered (Err e) said l r y) = misses e j r
+  where
+    misses : (e : Refusal) (j : ℕ) → Misread script i e j → i < j
+    misses e j (no_netstring x) = h
+    misses e j (no_call {c} r x) = omega (arith, spans script c i j r, long c)
+
+-- what was written, of the buffer that it lies in
+pub written_part : (a was is : List ℕ) (n : ℕ) → Copied a was (Some n) is → take n is ≡ a
+written_part a was is n w = ap (take n) w.2 ∙ take_at a (drop n was) n (sym w.0)
+
+pub appends_none : (x : Option (List ℕ)) → Appends x x []
+appends_none None = tt
+appends_none (Some xs) = sym (append-nil xs)
+
+pub appends_more : (x y z : Option (List ℕ)) (a b : List ℕ) → Appends x y a → Appends y z b → Appends x z (a ++ b)
+appends_more None y z a b h k = tt
+appends_more (Some xs) None z a b h k = absurd h
+appends_more (Some xs) (Some ys) None a b h k = absurd k
+appends_more (Some xs) (Some ys) (Some zs) a b h k = k ∙ ap (λ l. l ++ b) h ∙ append_assoc xs a b

@@ -1,0 +1,84 @@
+-- The calls of a script, and how they are written.
+use Rattle.std.specs.Prelude.{◌≡◌, ℕ, ◌+◌, ◌≤◌, List, [], ◌∷◌, map, length, decimal, Ok, Err, Result, ◌≢◌}
+use Rattle.std.specs.List.{flat_map, AllByRecursion}
+use Rattle.netstring.specs.Netstring.{netstring, NetstringAt, NoNetstringAt}
+use Rattle.shelf_view.specs.declared.refusal.Refusal.{Refusal}
+use Rattle.shelf_view.specs.declared.refusal.Refusal.TheVariants.{BadNetstring, BadCall}
+use Rattle.script.specs.Words.{spelling}
+use Rattle.script.specs.declared.call.Word.{Word}
+use Rattle.script.specs.declared.call.Word.TheVariants as words
+use Rattle.script.specs.declared.call.Call.{Call}
+use Rattle.script.specs.declared.call.Call.TheVariants.{Put, Cut, Splice, Mark, Text}
+
+abbrev pub word : Call → Word
+word (Put text) = words.Put
+word (Cut d a b) = words.Cut
+word (Splice d a b e) = words.Splice
+word (Mark d) = words.Mark
+word (Text d) = words.Text
+
+-- its number arguments
+abbrev pub numbers : Call → List ℕ
+numbers (Put text) = []
+numbers (Cut d a b) = d.value ∷ a.value ∷ b.value ∷ []
+numbers (Splice d a b e) = d.value ∷ a.value ∷ b.value ∷ e.value ∷ []
+numbers (Mark d) = d.value ∷ []
+numbers (Text d) = d.value ∷ []
+
+-- its arguments, as they are written
+abbrev pub arguments : Call → List (List ℕ)
+arguments (Put text) = text.value.now ∷ []
+arguments (Cut d a b) = map decimal (numbers (Cut d a b))
+arguments (Splice d a b e) = map decimal (numbers (Splice d a b e))
+arguments (Mark d) = map decimal (numbers (Mark d))
+arguments (Text d) = map decimal (numbers (Text d))
+
+-- the places of its arguments
+abbrev pub places : Call → List ℕ
+places (Put text) = text.at ∷ []
+places (Cut d a b) = d.at ∷ a.at ∷ b.at ∷ []
+places (Splice d a b e) = d.at ∷ a.at ∷ b.at ∷ e.at ∷ []
+places (Mark d) = d.at ∷ []
+places (Text d) = d.at ∷ []
+
+-- a number argument has one to seven digits
+abbrev pub few_digits : ℕ → Type 0
+few_digits n = n ≤ 9999999
+
+abbrev pub Lawful : Call → Type 0
+Lawful k = AllByRecursion few_digits (numbers k)
+
+-- the netstrings of these contents, one behind the other
+abbrev pub netstrings : List (List ℕ) → List ℕ
+netstrings cs = flat_map netstring cs
+
+-- where these contents stand, if their netstrings begin at the place i: each behind its length and a colon
+abbrev pub places_from : ℕ → List (List ℕ) → List ℕ
+places_from i [] = []
+places_from i (c ∷ cs) = (i + length (decimal (length c)) + 1) ∷ places_from (i + length (netstring c)) cs
+
+-- the content of a call's netstring: a word, then arguments
+abbrev pub content : Call → List ℕ
+content k = netstrings (spelling (word k) ∷ arguments k)
+
+-- a call stands in the script s at the place i; behind it is the place j
+pub record CallAt (s : List ℕ) (i : ℕ) (k : Call) (j : ℕ) : Type 0 where
+  pub stands : NetstringAt s i (content k) j
+  pub lawful : Lawful k
+  -- each argument has its own place in the script
+  pub placed : places k ≡ places_from (i + length (decimal (length (content k))) + 1 + length (netstring (spelling (word k)))) (arguments k)
+
+-- these bytes are no call
+abbrev pub NoCall : List ℕ → Type 0
+NoCall c = (k : Call) → Lawful k → content k ≢ c
+
+-- why no call is read at a place: what stands there is no netstring, and then the place behind it is the script's end;
+-- or a netstring stands there, and it holds no call
+pub data Misread (s : List ℕ) (i : ℕ) : Refusal → ℕ → Type 0 where
+  no_netstring : NoNetstringAt s i → Misread s i BadNetstring (length s)
+  no_call : {c : List ℕ} {j : ℕ} → NetstringAt s i c j → NoCall c → Misread s i BadCall j
+
+-- what is read at a place, and the place behind it
+abbrev pub Reads : List ℕ → ℕ → Result Call Refusal → ℕ → Type 0
+Reads s i (Ok k) j = CallAt s i k j
+Reads s i (Err e) j = Misread s i e j

@@ -1,0 +1,4 @@
+pub mod Words
+pub mod Calls
+pub mod Parsing
+pub mod Answers

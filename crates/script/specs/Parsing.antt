@@ -1,0 +1,42 @@
+-- Reading the arguments of a call, one behind the other. No promise to a caller rests on this file.
+use Rattle.std.specs.Prelude.{◌≡◌, ℕ, ◌+◌, List, [], ◌∷◌, ◌++◌, map, length, drop, decimal, Some, None, Option, ◌≢◌}
+use Rattle.std.specs.List.{AllByRecursion}
+use Rattle.netstring.specs.Netstring.{netstring, NetstringAt}
+use Rattle.script.specs.Calls.{few_digits, netstrings, places_from, word, arguments, places, Lawful, content, NoCall}
+use Rattle.script.specs.Words.{spelling}
+use Rattle.script.specs.declared.call.Call.{Call}
+
+-- the content c stands at the place p, in the netstring from i to j
+pub record TextAt (s : List ℕ) (i : ℕ) (c : List ℕ) (p j : ℕ) : Type 0 where
+  pub stands : NetstringAt s i c j
+  pub place : p ∷ [] ≡ places_from i (c ∷ [])
+
+-- so many numbers, at these places, are written from i to j, and no others
+pub record NumbersAt (s : List ℕ) (i : ℕ) (ns ps : List ℕ) (j : ℕ) : Type 0 where
+  pub few : AllByRecursion few_digits ns
+  pub stands : drop i s ≡ netstrings (map decimal ns) ++ drop j s
+  pub reach : j ≡ i + length (netstrings (map decimal ns))
+  pub only : (ms t : List ℕ) → length ms ≡ length ns → AllByRecursion few_digits ms → drop i s ≡ netstrings (map decimal ms) ++ t → (ms ≡ ns) × (t ≡ drop j s)
+  pub placed : ps ≡ places_from i (map decimal ns)
+
+-- no n numbers are written from i on
+abbrev pub NoNumbersAt : List ℕ → ℕ → ℕ → Type 0
+NoNumbersAt s i n = (ms t : List ℕ) → length ms ≡ n → AllByRecursion few_digits ms → drop i s ≢ netstrings (map decimal ms) ++ t
+
+-- the word and the arguments of k are written from i to j, and those of no other call
+pub record PartsAt (s : List ℕ) (i : ℕ) (k : Call) (j : ℕ) : Type 0 where
+  pub lawful : Lawful k
+  pub stands : drop i s ≡ content k ++ drop j s
+  pub reach : j ≡ i + length (content k)
+  pub ends : (h : Call) (t : List ℕ) → Lawful h → drop i s ≡ content h ++ t → t ≡ drop j s
+  pub placed : places k ≡ places_from (i + length (netstring (spelling (word k)))) (arguments k)
+
+-- those of no call are
+abbrev pub NoPartsAt : List ℕ → ℕ → Type 0
+NoPartsAt s i = (k : Call) (t : List ℕ) → Lawful k → drop i s ≢ content k ++ t
+
+-- the bytes from i to the end are a call
+abbrev pub CallInside : List ℕ → ℕ → Option Call → Type 0
+CallInside s i None = NoCall (drop i s)
+CallInside s i (Some k) =
+    Lawful k × (drop i s ≡ content k) × (places k ≡ places_from (i + length (netstring (spelling (word k)))) (arguments k))

@@ -1,0 +1,5 @@
+//! Scripts with their answers.
+#![tactic(auto)]
+
+#[cfg(test)]
+mod tests;
