@@ -2,7 +2,7 @@
 #![tactic(auto)]
 
 ghost use Rattle.std.specs.Prelude.{◌≡◌};
-ghost use Rattle.monoid.specs.Monoid.{Model, Lawful, Inverse};
+ghost use Rattle.monoid.specs.Monoid.{Model, Lawful, Inverse, fold_of};
 
 pub mod fold;
 pub mod karp_rabin;
@@ -25,6 +25,17 @@ pub trait Monoid: Copy {
     /// The value of one byte.
     fn of_byte(byte: u8) -> Self
         ensures { result ≡ model.of_byte byte };
+
+    /// The value of five bytes, one behind the other. A monoid may make it in its own way.
+    fn of_stretch(stretch: &[u8; 5]) -> Self
+        ensures { result ≡ fold_of model stretch.now }
+    {
+        let mut sum = Self::empty();
+        for b in stretch {
+            sum = sum.join(Self::of_byte(*b));
+        }
+        sum
+    }
 
     /// The value of a text and another behind it.
     fn join(self, other: Self) -> Self

@@ -31,6 +31,13 @@ impl<A: Monoid, B: Monoid> Monoid for Pair<A, B> {
         }
     }
 
+    fn of_stretch(stretch: &[u8; 5]) -> Pair<A, B> {
+        Pair {
+            first: A::of_stretch(stretch),
+            second: B::of_stretch(stretch),
+        }
+    }
+
     fn join(self, other: Pair<A, B>) -> Pair<A, B> {
         Pair {
             first: self.first.join(other.first),

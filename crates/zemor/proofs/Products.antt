@@ -1,13 +1,13 @@
 -- Products of bits: their first bit, that they tell their string, how large they are, and what they are modulo p.
-use Rattle.std.proofs.Common.{◌≡◌, ℕ, zero, suc, ◌+◌, ◌-◌, ◌*◌, ◌%◌, ◌<◌, ◌≤◌, Bool, true, false, List, [], ◌∷◌, length, Some, sym, refl, ap, ◌∙◌, le_trans, le_refl, mod-eq_of_lt, zero-add, add-one, arith}
+use Rattle.std.proofs.Common.{◌≡◌, ℕ, zero, suc, ◌+◌, ◌-◌, ◌*◌, ◌%◌, ◌<◌, ◌≤◌, Bool, true, false, List, [], ◌∷◌, ◌++◌, length, Some, sym, refl, ap, ◌∙◌, le_trans, le_refl, mod-eq_of_lt, zero-add, add-one, arith, length-append}
 use native.Mathlib.Nat.{mod-mod}
 use native.Mathlib.Decide.{le_ind}
 use Rattle.residue.specs.Residue.{prime}
 use Rattle.residue.proofs.Modulo.{dot, same_add, same_mul}
-use Rattle.zemor.specs.Matrix.{identity, bit, matrix}
+use Rattle.zemor.specs.Matrix.{identity, bit, matrix, times}
 use Rattle.zemor.specs.Bits.{product_of}
 use Rattle.residue.specs.Fibonacci.{fib}
-use Rattle.zemor.specs.Whole.{whole, whole_times, Bounded}
+use Rattle.zemor.specs.Whole.{whole, whole_times, Bounded, Short}
 use Rattle.zemor.specs.Peeling.{First}
 use Rattle.zemor.specs.declared.matrix.Entries.{Entries}
 use Rattle.zemor.specs.Laws.{four}
@@ -133,3 +133,47 @@ product_whole w h =
 
 pub within : Bounded
 within w = let b = bounded w in let t : fib (length w + 1) ≡ fib (suc (length w)) = ap fib (add-one (length w)) in omega arith
+
+-- the whole product of two strings, one behind the other
+pub whole_append : (u v : List Bool) → whole (u ++ v) ≡ whole_times (whole u) (whole v)
+whole_append [] v = four (whole v) (whole_times identity (whole v)) (omega arith) (omega arith) (omega arith) (omega arith)
+whole_append (false ∷ u) v =
+    let s = entrywise (whole_append u v) in
+    let x = whole u in
+    let y = whole v in
+    four (whole (false ∷ (u ++ v))) (whole_times (whole (false ∷ u)) y) (omega arith) (omega arith) (omega arith) (omega arith)
+whole_append (true ∷ u) v =
+    let s = entrywise (whole_append u v) in
+    let x = whole u in
+    let y = whole v in
+    four (whole (true ∷ (u ++ v))) (whole_times (whole (true ∷ u)) y) (omega arith) (omega arith) (omega arith) (omega arith)
+
+-- over few bits, the product modulo p is the one over whole numbers, and stays below p
+pub record Few (x y : Entries) : Type 0 where
+  pub product : times x y ≡ whole_times x y
+  pub a_few : (whole_times x y).a < prime
+  pub b_few : (whole_times x y).b < prime
+  pub c_few : (whole_times x y).c < prime
+  pub d_few : (whole_times x y).d < prime
+
+pub few : (x y : Entries) → Short x y → Few x y
+few x y h =
+    let u = h.front in
+    let v = h.back in
+    let fx : x ≡ whole u = h.x_is ∙ product_whole u (omega (arith, h.few)) in
+    let fy : y ≡ whole v = h.y_is ∙ product_whole v (omega (arith, h.few)) in
+    let len = length-append u v in
+    let low = bounded (u ++ v) in
+    let top : fib (suc (length (u ++ v))) < prime = omega (arith, fib_mono (suc (length (u ++ v))) 46 (omega (arith, len, h.few)), fib_46) in
+    let s = entrywise (whole_append u v ∙ ap (λ z. whole_times z (whole v)) (sym fx) ∙ ap (whole_times x) (sym fy)) in
+    let fa : (whole_times x y).a < prime = omega (arith, s.at_a, low.a_low, top) in
+    let fb : (whole_times x y).b < prime = omega (arith, s.at_b, low.b_low, top) in
+    let fc : (whole_times x y).c < prime = omega (arith, s.at_c, low.c_low, top) in
+    let fd : (whole_times x y).d < prime = omega (arith, s.at_d, low.d_low, top) in
+    record {
+      product = four (times x y) (whole_times x y) (mod-eq_of_lt fa) (mod-eq_of_lt fb) (mod-eq_of_lt fc) (mod-eq_of_lt fd);
+      a_few = fa;
+      b_few = fb;
+      c_few = fc;
+      d_few = fd;
+    }

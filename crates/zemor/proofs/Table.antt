@@ -1,7 +1,8 @@
 -- The table of the byte matrices: a list that is computed from its rule, which holds at each of its places.
-use Rattle.std.proofs.Common.{◌≡◌, ℕ, zero, suc, ◌+◌, ◌<◌, List, [], ◌∷◌, get_or, sym, ap, ◌∙◌, zero-add, add-zero, arith}
+use Rattle.std.proofs.Common.{◌≡◌, ℕ, zero, suc, ◌+◌, ◌<◌, List, [], ◌∷◌, get_or, refl, sym, ap, ◌∙◌, zero-add, add-zero, arith}
 use Rattle.zemor.specs.Bits.{byte_product}
 use Rattle.zemor.specs.declared.matrix.Entries.{Entries}
+use Rattle.zemor.specs.declared.matrix.table.TheConstants.{TABLE}
 
 -- the four entries, in order
 abbrev pub in_order : Entries → List ℕ
@@ -22,3 +23,11 @@ rule_from k (suc n) (suc i) h =
 -- the row at the place k is the matrix of the byte k
 pub rule : (k : ℕ) → k < 256 → get_or (rows_from 0 256) k [] ≡ in_order (byte_product k)
 rule k h = rule_from 0 256 k h ∙ ap (λ j. in_order (byte_product j)) (zero-add k)
+
+-- the checker computes the rows of the rule, and finds the table's 1,024 numbers in them
+table_whole : TABLE ≡ rows_from 0 256
+unfolding rows_from byte_product
+table_whole = refl
+
+pub row_at : (k : ℕ) → k < 256 → get_or TABLE k [] ≡ in_order (byte_product k)
+row_at k h = ap (λ t. get_or t k []) table_whole ∙ rule k h

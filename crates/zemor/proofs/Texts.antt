@@ -1,5 +1,5 @@
 -- The fold of a text's bytes is the product of its bits, different texts have different bits, and slips always show.
-use Rattle.std.proofs.Common.{◌≡◌, ℕ, zero, suc, ◌*◌, ◌/◌, ◌%◌, ◌^◌, ◌<◌, ◌≤◌, Bool, true, cond, List, [], ◌∷◌, ◌++◌, map, length, take, drop, sym, refl, ap, ◌∙◌, mod-eq_of_lt, arith}
+use Rattle.std.proofs.Common.{◌≡◌, ℕ, zero, suc, ◌*◌, ◌/◌, ◌%◌, ◌^◌, ◌<◌, ◌≤◌, Bool, true, cond, List, [], ◌∷◌, ◌++◌, map, length, get_or, take, drop, sym, refl, ap, ◌∙◌, append_assoc, append-nil, mod-eq_of_lt, arith}
 use Rattle.std.specs.Int.Digits.{number_from_digits}
 use Rattle.std.proofs.lemmas.Bool.Decides.{nat_tests as by_tests}
 use Rattle.monoid.specs.Monoid.{fold_of, fold_from, all_bytes}
@@ -8,6 +8,7 @@ use Rattle.zemor.specs.Matrix.{times, bit}
 use Rattle.zemor.specs.Bits.{digits_in, bits_in, is_one, text_bits, product_of, byte_product}
 use Rattle.zemor.specs.Values.{sl2, row, one, value, product_valid, inverse_of}
 use Rattle.zemor.specs.Slips.{SlipsShow}
+use Rattle.zemor.specs.declared.matrix.Entries.{Entries}
 use Rattle.zemor.specs.declared.matrix.Sl2.{Sl2}
 use Rattle.zemor.proofs.Digits.{number_digits}
 use Rattle.zemor.specs.Laws.{same, lawful, inverts, times_assoc}
@@ -20,6 +21,20 @@ product_value w = value (product_of w) (product_valid w)
 pub product_append : (u v : List Bool) → product_of (u ++ v) ≡ times (product_of u) (product_of v)
 product_append [] v = sym (ap row (lawful.left (value (product_of v) (product_valid v))))
 product_append (b ∷ u) v = ap (times (bit b)) (product_append u v) ∙ sym (times_assoc (bit b) (product_of u) (product_of v))
+
+-- the product of two products of bits is one
+pub both : {x y : Entries} (u v : List Bool) → x ≡ product_of u → y ≡ product_of v → times x y ≡ product_of (u ++ v)
+both {x} {y} u v ex ey = ap (λ z. times z y) ex ∙ ap (times (product_of u)) ey ∙ sym (product_append u v)
+
+-- a text of five bytes, one by one
+pub five_bytes : (xs : List ℕ) → length xs ≡ 5 → ((bits_in (get_or xs 0 0) 8 ++ bits_in (get_or xs 1 0) 8) ++ (bits_in (get_or xs 2 0) 8 ++ bits_in (get_or xs 3 0) 8)) ++ bits_in (get_or xs 4 0) 8 ≡ text_bits xs
+five_bytes (a ∷ b ∷ c ∷ d ∷ e ∷ []) h = simp (append_assoc, append-nil)
+five_bytes [] h = absurd (omega arith)
+five_bytes (a ∷ []) h = absurd (omega arith)
+five_bytes (a ∷ b ∷ []) h = absurd (omega arith)
+five_bytes (a ∷ b ∷ c ∷ []) h = absurd (omega arith)
+five_bytes (a ∷ b ∷ c ∷ d ∷ []) h = absurd (omega arith)
+five_bytes (a ∷ b ∷ c ∷ d ∷ e ∷ (f ∷ xs)) h = absurd (omega arith)
 
 fold_bits : (x : Sl2) (text : List ℕ) → row (fold_from sl2 x text) ≡ times (row x) (product_of (text_bits text))
 unfolding byte_product

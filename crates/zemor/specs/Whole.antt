@@ -3,6 +3,7 @@ use Rattle.std.specs.Prelude.{◌≡◌, ◌+◌, ◌*◌, ◌<◌, ◌≤◌, B
 use Rattle.residue.specs.Fibonacci.{fib}
 use Rattle.residue.specs.Residue.{prime}
 use Rattle.zemor.specs.Matrix.{matrix, identity, bit}
+use Rattle.zemor.specs.Bits.{product_of}
 use Rattle.zemor.specs.declared.matrix.Entries.{Entries}
 
 abbrev pub whole_times : Entries → Entries → Entries
@@ -26,3 +27,11 @@ Apart = (u v : List Bool) → whole u ≡ whole v → u ≡ v
 -- F(46) is below p, and F(47) is not
 abbrev pub Edge : Type 0
 Edge = (fib 46 ≡ 1836311903) × (fib 46 < prime) × (prime ≤ fib 47)
+
+-- two matrices that are products of bits, of at most 45 bits together
+pub record Short (x y : Entries) : Type 0 where
+  pub front : List Bool
+  pub back : List Bool
+  pub x_is : x ≡ product_of front
+  pub y_is : y ≡ product_of back
+  pub few : length front + length back ≤ 45

@@ -5,6 +5,7 @@ ghost use Rattle.residue.specs.Residue.{prime};
 use residue::Residue;
 
 pub mod ops;
+mod stretch;
 mod table;
 mod written;
 

@@ -2,7 +2,7 @@ ghost use Rattle.std.specs.Prelude.{◌≡◌, MatchBool};
 ghost use Rattle.zemor.specs.Values.{sl2, inverse_of, Checked as Found};
 ghost use Rattle.zemor.specs.Laws;
 
-use super::{Entries, Sl2, table};
+use super::{Entries, Sl2, stretch, table};
 use monoid::{Group, Monoid};
 use residue::{Residue, dot};
 
@@ -24,6 +24,10 @@ impl Monoid for Sl2 {
 
     fn of_byte(byte: u8) -> Sl2 {
         table::of_byte(byte)
+    }
+
+    fn of_stretch(stretch: &[u8; 5]) -> Sl2 {
+        stretch::of_stretch(stretch)
     }
 
     fn join(self, other: Sl2) -> Sl2 {

@@ -1,7 +1,8 @@
 ghost use Rattle.std.specs.Prelude.{◌≡◌};
+ghost use Rattle.zemor.specs.Bits.{byte_product};
 ghost use Rattle.zemor.specs.Values.{sl2};
 
-use super::Sl2;
+use super::{Entries, Sl2};
 use residue::Residue;
 
 // The matrix of each byte, [a b; c d] as [a, b, c, d].
@@ -275,5 +276,18 @@ pub fn of_byte(byte: u8) -> Sl2
         b: Residue::from(*b),
         c: Residue::from(*c),
         d: Residue::from(*d),
+    }
+}
+
+/// The same, as plain numbers.
+pub fn entries(byte: u8) -> Entries
+    ensures { result ≡ byte_product byte }
+{
+    let [a, b, c, d] = &TABLE[byte as usize];
+    Entries {
+        a: *a as u32,
+        b: *b as u32,
+        c: *c as u32,
+        d: *d as u32,
     }
 }

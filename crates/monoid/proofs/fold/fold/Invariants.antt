@@ -1,8 +1,10 @@
-use Rattle.std.proofs.Common.{◌≡◌, ◌≤◌, true, length, take}
-use Rattle.monoid.specs.Monoid.{fold_of, all_bytes}
+use Rattle.std.proofs.Common.{◌≡◌, length}
+use Rattle.monoid.specs.Monoid.{fold_of}
 use Rattle.monoid.proofs.fold.fold.Given as goal
 
-abbrev pub invariant-loop-b : goal.invariant-loop-b
-invariant-loop-b g l =
-    (l.b-index ≤ length l.text) × (l.sum ≡ fold_of g.M.Monoid.model (take l.b-index l.text))
-    × (all_bytes (take l.b-index l.text) ≡ true)
+-- what is summed, joined with the rest, is the whole
+abbrev pub invariant-loop-stretch : goal.invariant-loop-stretch
+invariant-loop-stretch g l = let m = g.M.Monoid.model in m.joined l.sum (fold_of m l.rest) ≡ fold_of m l.text
+
+abbrev pub decreases-loop-stretch : goal.decreases-loop-stretch
+decreases-loop-stretch g l = length l.rest

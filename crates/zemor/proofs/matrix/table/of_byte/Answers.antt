@@ -1,20 +1,11 @@
-use Rattle.std.proofs.Common.{◌≡◌, ℕ, ◌<◌, [], get_or, refl, ap, ◌∙◌, arith}
+use Rattle.std.proofs.Common.{◌≡◌, get_or, ap, ◌∙◌, arith}
 use Rattle.zemor.specs.Matrix.{matrix}
 use Rattle.zemor.specs.Bits.{byte_product}
 use Rattle.zemor.specs.Values.{sl2}
 use Rattle.zemor.specs.Laws.{same, like, four}
-use Rattle.zemor.specs.declared.matrix.table.TheConstants.{TABLE}
-use Rattle.zemor.proofs.Table.{rows_from, in_order, rule}
+use Rattle.zemor.proofs.Table.{row_at}
 use Rattle.zemor.proofs.matrix.table.of_byte.Goals as goal
 use Rattle.zemor.proofs.matrix.table.of_byte.Goals.{After-from-4}
-
--- the checker computes the rows of the rule, and finds the table's 1,024 numbers in them
-whole : TABLE ≡ rows_from 0 256
-unfolding rows_from byte_product
-whole = refl
-
-row_at : (k : ℕ) → k < 256 → get_or TABLE k [] ≡ in_order (byte_product k)
-row_at k h = ap (λ t. get_or t k []) whole ∙ rule k h
 
 entries : (c : After-from-4) → matrix c.from.result.n c.from-2.result.n c.from-3.result.n c.from-4.result.n ≡ byte_product c.args.byte
 entries c =
