@@ -1,0 +1,27 @@
+//! What the arguments ask for.
+use anyhow::{Result, bail};
+
+pub enum Command<'w> {
+    /// Compare two files.
+    Compare { old: &'w str, new: &'w str },
+    /// Show edits to one file.
+    Edits { file: &'w str },
+}
+
+impl<'w> Command<'w> {
+    /// The command of these words, of which the first is the program's name.
+    pub fn of(words: &'w [String]) -> Result<Command<'w>> {
+        match words {
+            [_, file] => Ok(Command::Edits {
+                file: file.as_str(),
+            }),
+            [_, old, new] => Ok(Command::Compare {
+                old: old.as_str(),
+                new: new.as_str(),
+            }),
+            _ => bail!(
+                "usage: compare OLD NEW, to compare two files, or compare FILE, to see edits to one"
+            ),
+        }
+    }
+}

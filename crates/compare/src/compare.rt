@@ -1,0 +1,159 @@
+//! Two files compared: what the person who releases a build does by hand.
+ghost use Rattle.std.specs.Prelude.{◌≤◌, length};
+
+use crate::change::{Change, Stretch, difference, lines_of};
+use crate::files::read;
+use crate::memory::Memory;
+use crate::told::{MarkedView, place_in, refused, tell};
+use anyhow::Result;
+use std::io::Write;
+use std::rt::Files;
+
+/// A file's text, and its document on the shelf.
+#[derive(Clone, Copy)]
+struct Document<'t> {
+    name: &'t str,
+    text: &'t [u8],
+    number: u32,
+}
+
+/// The longest text that is read back.
+const MOST_WINDOW: usize = 5;
+
+/// Puts both files on one shelf, and writes how they differ.
+pub fn run<R: Files + AllocGlobal, W: Write>(
+    rt: &R,
+    old: &str,
+    new: &str,
+    out: &mut W,
+) -> Result<()> {
+    let old_text = read(rt, old)?;
+    let new_text = read(rt, new)?;
+    // both lie one behind the other in the build text
+    let mut build = old_text.clone()?;
+    build.extend_from_slice(&new_text)?;
+    let mut memory = Memory::new(rt.alloc())?;
+    let mut shelf = memory.shelf(&build);
+    let first = shelf.take(0, old_text.len()).map_err(refused)?;
+    let second = shelf.take(old_text.len(), build.len()).map_err(refused)?;
+    let old = Document {
+        name: old,
+        text: &old_text,
+        number: first,
+    };
+    let new = Document {
+        name: new,
+        text: &new_text,
+        number: second,
+    };
+    report(shelf.view(), old, new, out)
+}
+
+/// Writes how two documents differ.
+fn report<'v, 't, W: Write>(
+    view: MarkedView<'v>,
+    old: Document<'t>,
+    new: Document<'t>,
+    out: &mut W,
+) -> Result<()> {
+    write_document(view, old, out)?;
+    write_document(view, new, out)?;
+    match difference(old.text, new.text) {
+        None => Ok(writeln!(out, "equal texts")?),
+        Some(change) => {
+            write_places(view, old, new, change, out)?;
+            write_lines("< ", old.text, change.old, out)?;
+            write_lines("> ", new.text, change.new, out)?;
+            write_read_back(view, old, new, change, out)
+        }
+    }
+}
+
+/// Writes a document's fingerprint, and how long it is.
+fn write_document<'v, 't, W: Write>(
+    view: MarkedView<'v>,
+    document: Document<'t>,
+    out: &mut W,
+) -> Result<()> {
+    let told = tell(view, document.number)?;
+    let name = document.name;
+    writeln!(out, "{told}  {name}")?;
+    Ok(())
+}
+
+/// Writes where two documents first part, and from where they agree again.
+fn write_places<'v, 't, W: Write>(
+    view: MarkedView<'v>,
+    old: Document<'t>,
+    new: Document<'t>,
+    change: Change,
+    out: &mut W,
+) -> Result<()> {
+    let first = place_in(view, old.number, change.old.from)?;
+    let old_last = place_in(view, old.number, change.old.to)?;
+    let new_last = place_in(view, new.number, change.new.to)?;
+    writeln!(out, "they part at {first}")?;
+    let (old, new) = (old.name, new.name);
+    writeln!(
+        out,
+        "and agree again from {old_last} of {old}, {new_last} of {new}"
+    )?;
+    Ok(())
+}
+
+/// Writes the lines that a part of the text touches, each behind a sign.
+fn write_lines<W: Write>(sign: &str, text: &[u8], part: Stretch, out: &mut W) -> Result<()>
+    requires ordered { part.from ≤ part.to }
+    requires within { part.to ≤ length text.now }
+{
+    let Stretch { from, to } = lines_of(text, part);
+    // behind the last newline of a text stands no line
+    if from == text.len() {
+        return Ok(());
+    }
+    let lines = &text[from..to];
+    let lines = match lines.strip_suffix(b"\n") {
+        Some(front) if to == text.len() => front,
+        _ => lines,
+    };
+    for line in lines.split(|b| *b == b'\n') {
+        out.write_all(sign.as_bytes())?;
+        out.write_all(line)?;
+        out.write_all(b"\n")?;
+    }
+    Ok(())
+}
+
+/// Writes what was put in the place of the old part, as the old text and the new fingerprint tell it.
+fn write_read_back<'v, 't, W: Write>(
+    view: MarkedView<'v>,
+    old: Document<'t>,
+    new: Document<'t>,
+    change: Change,
+    out: &mut W,
+) -> Result<()>
+    requires { change.new.from ≤ change.new.to }
+{
+    let Change {
+        old: Stretch { from, to },
+        new: written,
+    } = change;
+    if written.to - written.from > MOST_WINDOW {
+        writeln!(
+            out,
+            "more than {MOST_WINDOW} bytes were written, so they are not read back"
+        )?;
+        return Ok(());
+    }
+    let fingerprint = view.summary(new.number).map_err(refused)?.first.to_hex();
+    let mut window = [0; MOST_WINDOW];
+    let n = view
+        .read_back(old.number, from, to, &fingerprint, &mut window)
+        .map_err(refused)?;
+    let (old, window) = (old.name, window[..n].escape_ascii());
+    writeln!(
+        out,
+        "written there, as {old} and the second fingerprint alone tell: \"{window}\""
+    )?;
+    Ok(())
+}
