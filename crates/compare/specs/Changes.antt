@@ -1,5 +1,6 @@
 -- Where two texts part, and the lines of a part.
-use Rattle.std.specs.Prelude.{◌≡◌, ℕ, ◌+◌, ◌≤◌, ◌==◌, Bool, not, List, reverse, length, drop, take, take_while, position, zip, Option, min}
+use Rattle.std.specs.Prelude.{◌≡◌, ℕ, ◌+◌, ◌≤◌, ◌==◌, Bool, not, List, ◌++◌, reverse, length, drop, take, take_while, position, zip, Option, min}
+use Rattle.std.specs.List.{between}
 use Rattle.std.specs.Char.{is_ascii_digit}
 use Rattle.std.specs.Option.{option_map}
 use Rattle.compare.specs.declared.change.Stretch.{Stretch}
@@ -12,7 +13,8 @@ front_of a b = length (take_while (λ p. p.0 == p.1) (zip a b))
 abbrev pub back_of : List ℕ → List ℕ → ℕ
 back_of a b = front_of (reverse a) (reverse b)
 
--- the stretches begin where the texts first part, and end before what they have in common at their ends
+-- the stretches begin where the texts first part, and end before what they have in common at their ends; with the new
+-- stretch in the place of the old one, the old text is the new one
 pub record Changed (old new : List ℕ) (c : Change) : Type 0 where
   pub differ : ¬ (old ≡ new)
   pub old_from : c.old.from ≡ front_of old new
@@ -21,6 +23,7 @@ pub record Changed (old new : List ℕ) (c : Change) : Type 0 where
   pub new_to : c.new.to + back_of (drop c.old.from old) (drop c.old.from new) ≡ length new
   pub old_part : c.old.from ≤ c.old.to
   pub new_part : c.new.from ≤ c.new.to
+  pub replaced : new ≡ take c.old.from old ++ (between c.new.from c.new.to new ++ drop c.old.to old)
 
 -- how many bytes of a line stand before a place, and from it on
 abbrev pub no_newline : ℕ → Bool

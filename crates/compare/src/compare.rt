@@ -3,7 +3,7 @@ ghost use Rattle.std.specs.Prelude.{◌≤◌, length};
 
 use crate::change::{Change, Stretch, difference, lines_of};
 use crate::files::read;
-use crate::memory::Memory;
+use crate::memory::memory;
 use crate::told::{MarkedView, place_in, refused, tell};
 use anyhow::Result;
 use std::io::Write;
@@ -32,7 +32,7 @@ pub fn run<R: Files + AllocGlobal, W: Write>(
     // both lie one behind the other in the build text
     let mut build = old_text.clone()?;
     build.extend_from_slice(&new_text)?;
-    let mut memory = Memory::new(rt.alloc())?;
+    let mut memory = memory(rt.alloc())?;
     let mut shelf = memory.shelf(&build);
     let first = shelf.take(0, old_text.len()).map_err(refused)?;
     let second = shelf.take(old_text.len(), build.len()).map_err(refused)?;
@@ -75,13 +75,13 @@ fn write_document<'v, 't, W: Write>(
     document: Document<'t>,
     out: &mut W,
 ) -> Result<()> {
-    let told = tell(view, document.number)?;
+    let told = tell(view, document.number).map_err(refused)?;
     let name = document.name;
     writeln!(out, "{told}  {name}")?;
     Ok(())
 }
 
-/// Writes where two documents first part, and from where they agree again.
+/// Writes where two documents first part, and where they last do.
 fn write_places<'v, 't, W: Write>(
     view: MarkedView<'v>,
     old: Document<'t>,
@@ -89,14 +89,14 @@ fn write_places<'v, 't, W: Write>(
     change: Change,
     out: &mut W,
 ) -> Result<()> {
-    let first = place_in(view, old.number, change.old.from)?;
-    let old_last = place_in(view, old.number, change.old.to)?;
-    let new_last = place_in(view, new.number, change.new.to)?;
-    writeln!(out, "they part at {first}")?;
+    let first = place_in(view, old.number, change.old.from).map_err(refused)?;
+    let old_last = place_in(view, old.number, change.old.to).map_err(refused)?;
+    let new_last = place_in(view, new.number, change.new.to).map_err(refused)?;
+    writeln!(out, "they first part at {first}")?;
     let (old, new) = (old.name, new.name);
     writeln!(
         out,
-        "and agree again from {old_last} of {old}, {new_last} of {new}"
+        "and last part before {old_last} of {old}, {new_last} of {new}"
     )?;
     Ok(())
 }

@@ -1,7 +1,7 @@
 //! Edits to a number in one file, call by call.
 use crate::change::{Stretch, digits_in, other_digits};
 use crate::files::read;
-use crate::memory::Memory;
+use crate::memory::memory;
 use crate::told::{MarkedView, place_in, refused, tell};
 use anyhow::{Context, Result};
 use script::run::MarkedShelf;
@@ -17,7 +17,7 @@ const MOST_DIGITS: usize = 5;
 pub fn run<R: Files + AllocGlobal, W: Write>(rt: &R, file: &str, out: &mut W) -> Result<()> {
     let text = read(rt, file)?;
     let part = digits_in(&text, MOST_DIGITS).context(format_args!("{file} has no digits to edit"))?;
-    let mut memory = Memory::new(rt.alloc())?;
+    let mut memory = memory(rt.alloc())?;
     let mut shelf = memory.shelf(&text);
     let other = other_digits(rt.alloc(), &text[part.from..part.to])?;
     edit(&mut shelf, text.len(), part, &other, out)
@@ -35,7 +35,7 @@ fn edit<'b, 'a, W: Write>(
     let whole = shelf.take(0, len).map_err(refused)?;
     write_made(shelf.view(), whole, "take: the whole file", out)?;
     let old = shelf.cut(whole, from, to).map_err(refused)?;
-    let at = place_in(shelf.view(), whole, from)?;
+    let at = place_in(shelf.view(), whole, from).map_err(refused)?;
     write_made(
         shelf.view(),
         old,
@@ -71,7 +71,7 @@ fn write_made<'v, D: Display + Drop, W: Write>(
     how: D,
     out: &mut W,
 ) -> Result<()> {
-    let told = tell(view, number)?;
+    let told = tell(view, number).map_err(refused)?;
     writeln!(out, "{number}  {told}  {how}")?;
     Ok(())
 }

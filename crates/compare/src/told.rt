@@ -1,9 +1,10 @@
 //! What a marked shelf tells of its documents, for a reader.
-ghost use Rattle.std.specs.Prelude.{◌≡◌, IfOk};
+ghost use Rattle.shelf_view.specs.Refusals.{Answers};
 ghost use Rattle.shelf_view.specs.State.{strings, text_at};
+ghost use Rattle.shelf_view.specs.Questions.{of_document, of_part};
 ghost use Rattle.compare.specs.Shown.{Stands, Tells};
 
-use anyhow::{Error, Result, anyhow};
+use anyhow::{Error, anyhow};
 use monoid::line_column::LineColumn;
 use script::run::Marked;
 use shelf_view::refusal::Refusal;
@@ -37,10 +38,10 @@ impl fmt::Display for Place {
 }
 
 /// A place in document `d`.
-pub fn place_in<'v>(view: MarkedView<'v>, d: u32, place: usize) -> Result<Place>
-    ensures { IfOk result (Stands (text_at (strings view.entry) d) place) }
+pub fn place_in<'v>(view: MarkedView<'v>, d: u32, place: usize) -> Result<Place, Refusal>
+    ensures { Answers (of_part (strings view.entry) d 0 place) (Stands (text_at (strings view.entry) d) place) result }
 {
-    let front = view.part_summary(d, 0, place).map_err(refused)?;
+    let front = view.part_summary(d, 0, place)?;
     Ok(Place { place, front })
 }
 
@@ -64,11 +65,11 @@ impl fmt::Display for Told {
 }
 
 /// What is told of document `d`.
-pub fn tell<'v>(view: MarkedView<'v>, d: u32) -> Result<Told>
-    ensures { IfOk result (Tells (text_at (strings view.entry) d)) }
+pub fn tell<'v>(view: MarkedView<'v>, d: u32) -> Result<Told, Refusal>
+    ensures { Answers (of_document (strings view.entry) d) (Tells (text_at (strings view.entry) d)) result }
 {
     Ok(Told {
-        bytes: view.len(d).map_err(refused)?,
-        summary: view.summary(d).map_err(refused)?,
+        bytes: view.len(d)?,
+        summary: view.summary(d)?,
     })
 }

@@ -24,6 +24,13 @@ impl Residue {
 
     pub const ONE: Residue = Residue { n: 1 };
 
+    /// `ZERO` and `ONE`: a constant has no contract of its own, so it stands here.
+    pub fn constants() -> (Residue, Residue)
+        ensures { (result.0.n ≡ 0) × (result.1.n ≡ 1) }
+    {
+        (Residue::ZERO, Residue::ONE)
+    }
+
     /// n modulo p.
     pub fn new(n: u32) -> Residue
         ensures { result.n ≡ n % prime }

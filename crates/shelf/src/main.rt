@@ -4,12 +4,12 @@
 mod memory;
 mod serve;
 
-use memory::Memory;
+use memory::memory;
 use serve::serve;
 use std::io;
 
 fn main(rt: HostRuntime) -> io::Result<()> {
-    let mut memory = Memory::new(rt.alloc())?;
-    let mut shelf = memory.shelf();
+    let mut memory = memory(rt.alloc())?;
+    let mut shelf = memory.shelf(&[]);
     serve(rt.alloc(), rt.stdin(), &mut shelf, &mut rt.stdout())
 }

@@ -62,12 +62,12 @@ module _ {V R : Type 0} {kind : _} (b : Brought) (cs : List Call) (xs : List (Re
       } in
       subst (Going b (cs ++ (c ∷ [])) (xs ++ (a ∷ []))) (sym step.1) at_s
   by_reason None h step =
-      let changed = step.2 in
+      let changed = step.2.0 in
       let mark : s.mark ≡ b.mark = ap (λ z. z.mark) g.memory in
       let build : s.store.build.now ≡ b.build = ap (λ z. z.build) g.memory in
       let told_answer : Ok (answer b.mark (strings (parts s)) c) ≡ a = ap (λ z. Ok (answer z (strings (parts s)) c)) (sym mark) ∙ sym step.0 in
       let new_state : accepted b.build c (strings (parts s)) ≡ strings (parts t) = ap (λ z. accepted z c (strings (parts s))) (sym build) ∙ sym step.1 in
-      let grown : Grown (strings (parts s)) (told (parts s)) (told (parts t)) (need (told (parts s)) c) = record { more = changed.records.more; cost = changed.cost; heights = changed.heights } in
+      let grown : Grown c (strings (parts s)) (told (parts s)) (told (parts t)) = record { more = changed.records.more; cost = changed.cost; heights = changed.heights; draft = step.2.1 } in
       let taken_a : taken a ≡ true = ap taken (sym told_answer) in
       record {
         memory = changed.same_brought ∙ g.memory;
@@ -137,7 +137,7 @@ module _ {V R : Type 0} {kind : _} (added : List ℕ) (records : List (Record R)
   pub untouched_step : (w : Option Refusal) → Stepped w s c a t → Untouched (parts s) added records places → Untouched (parts t) added records places
   untouched_step (Some e) step u = subst (λ z. Untouched (parts z) added records places) (sym step.1) u
   untouched_step None step u =
-      let k = step.2 in
+      let k = step.2.0 in
       record {
         added_memory = fills_trans u.added_memory k.added;
         records_memory = fills_trans u.records_memory k.records;

@@ -4,7 +4,7 @@ use Rattle.std.specs.List.{between}
 use Rattle.monoid.specs.Monoid.{Model, fold_of}
 use Rattle.zemor.specs.Slips.{Slip, Exactly}
 use Rattle.zemor.specs.declared.matrix.Sl2.{Sl2}
-use Rattle.shelf_view.specs.Marked.{fingerprint, ReadsBack}
+use Rattle.shelf_view.specs.Marked.{fingerprint, in_part, ReadsBack}
 use Rattle.shelf_view.specs.Questions.{of_document, of_part, of_copy}
 use Rattle.shelf_view.specs.Refusals.{Answers, first}
 use Rattle.shelf_view.specs.State.{State, unknown, text_at}
@@ -40,4 +40,4 @@ SlipsTold d e r s t =
 
 -- read-back answers the one window that gives the fingerprint, or refuses where none does
 abbrev pub WindowTold : ℕ → ℕ → ℕ → List ℕ → List ℕ → List ℕ → Result ℕ Refusal → State → Type 0
-WindowTold d a b digits old new r s = ReadsBack (of_copy s d a b 5 (length old)) (text_at s d) a b digits old new r
+WindowTold d a b digits old new r s = ReadsBack (of_copy s d a b 5 (length old)) (in_part (text_at s d) a b) digits old new r

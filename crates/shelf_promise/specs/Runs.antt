@@ -3,7 +3,7 @@ use Rattle.std.specs.Prelude.{◌≡◌, ℕ, ◌+◌, ◌<◌, ◌≤◌, Bool,
 use Rattle.shelf_view.specs.State.{State}
 use Rattle.shelf_view.specs.declared.refusal.Refusal.{Refusal}
 use Rattle.text_shelf.specs.Shelves.{Brought, Told}
-use Rattle.text_shelf.specs.Calls.{next, accepted, answer, need, reason}
+use Rattle.text_shelf.specs.Calls.{next, accepted, answer, need, DraftHeight, reason}
 use Rattle.text_shelf.specs.declared.call.Call.{Call}
 use Rattle.text_shelf.specs.declared.call.Answer.{Answer}
 
@@ -24,12 +24,13 @@ after build s [] xs = s
 after build s (c ∷ cs) [] = s
 after build s (c ∷ cs) (a ∷ xs) = after build (next build c (taken a) s) cs xs
 
--- after an accepted call that may take n records: no record is given back, at most n are taken, and every document that
--- was there keeps its height
-pub record Grown (s : State) (t u : Told) (n : ℕ) : Type 0 where
+-- after an accepted call: no record is given back, at most those that it may take are taken, every document that was there
+-- keeps its height, and so does the open draft where the call is about none
+pub record Grown (c : Call) (s : State) (t u : Told) : Type 0 where
   pub more : t.used ≤ u.used
-  pub cost : u.used ≤ t.used + n
+  pub cost : u.used ≤ t.used + need t c
   pub heights : (d : ℕ) → d < length s.texts → slice_index u.heights d ≡ slice_index t.heights d
+  pub draft : DraftHeight c t.draft u.draft
 
 -- calls with their answers, one behind the other, on a fresh shelf over this memory: each is refused exactly where a
 -- numbered reason holds, with that number, and then changes nothing; otherwise it answers what the list of strings says
@@ -38,4 +39,4 @@ pub data Run (b : Brought) : List Call → List (Result Answer Refusal) → Stat
   refused : {cs : List Call} {xs : List (Result Answer Refusal)} {s : State} {t : Told} → Run b cs xs s t → (c : Call) (e : Refusal)
       → reason b t s c ≡ Some e → Run b (cs ++ (c ∷ [])) (xs ++ (Err e ∷ [])) s t
   granted : {cs : List Call} {xs : List (Result Answer Refusal)} {s : State} {t : Told} → Run b cs xs s t → (c : Call) (u : Told)
-      → reason b t s c ≡ None → Grown s t u (need t c) → Run b (cs ++ (c ∷ [])) (xs ++ (Ok (answer b.mark s c) ∷ [])) (accepted b.build c s) u
+      → reason b t s c ≡ None → Grown c s t u → Run b (cs ++ (c ∷ [])) (xs ++ (Ok (answer b.mark s c) ∷ [])) (accepted b.build c s) u

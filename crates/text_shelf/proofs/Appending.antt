@@ -15,7 +15,7 @@ use Rattle.shelf_view.specs.State.{State, text_at}
 use Rattle.shelf_view.proofs.Firsts.{first_none}
 use Rattle.rope.specs.Held.{held, Gains}
 use Rattle.text_shelf.specs.Shelves.{Parts, parts, Brought, brought, Told, told, strings}
-use Rattle.text_shelf.specs.Calls.{appended, spliced, accepted, answer, need, reason, reasons, numbers_spent}
+use Rattle.text_shelf.specs.Calls.{appended, spliced, accepted, answer, need, DraftHeight, reason, reasons, numbers_spent}
 use Rattle.text_shelf.specs.Steps.{Changed, Steps, brings}
 use Rattle.text_shelf.specs.declared.call.Call.{Call}
 use Rattle.text_shelf.specs.declared.call.Call.TheVariants.{Put, Take, Cut, Splice}
@@ -23,7 +23,7 @@ use Rattle.text_shelf.specs.declared.call.Answer.TheVariants.{Made}
 use Rattle.rope.specs.declared.lent.Lent.{Lent}
 use Rattle.text_shelf.specs.declared.shelf.Shelf.{Shelf}
 use Rattle.text_shelf.specs.declared.shelf.TheConstants.{MOST_PLACES}
-use Rattle.text_shelf.proofs.Staying.{fine_root, fine_stays, all_fine_stays, texts_stay, heights_stay, draft_stays, all_fine_push}
+use Rattle.text_shelf.proofs.Staying.{fine_root, fine_stays, all_fine_stays, texts_stay, heights_stay, draft_stays, draft_height_stays, all_fine_push}
 
 pub count_texts : {V R : Type 0} {kind : _} (s : Parts V R kind) → length (strings s).texts ≡ s.places.used + 1
 count_texts s = omega (arith, length-map (held s.places) (text_of (arena_of s.store)), length-take-le s.places.used s.places.memory.now s.places.within)
@@ -123,6 +123,7 @@ pub record Appends {V R : Type 0} {kind : _} (s t : Parts V R kind) (text bs : L
   pub firm : Firm t
   pub strings_are : strings t ≡ appended (strings s) text (length bs)
   pub changed : Changed s t bs n
+  pub draft : (told t).draft ≡ (told s).draft
 
 pub append : {V R : Type 0} {kind : _} (s : Shelf V R kind) (store : Store V R kind) (bs : List ℕ) (n : ℕ) → Grows s.store store bs n
     → (places : Lent Root MOST_PLACES) (root : Root) (text : List ℕ) → Gains s.places places (root ∷ []) → rooted store.records.used root ≡ true → text_of (arena_of store) root ≡ text
@@ -135,6 +136,7 @@ append s store bs n g places root text p r is fits =
       firm = firm_after (parts s) f store bs n g places root text p root_fine is s.draft s.drafted;
       strings_are = strings_after (parts s) f store bs n g places root text p root_fine is;
       changed = changed_after (parts s) f store bs n g places root text p root_fine is s.draft;
+      draft = draft_height_stays s.store store g.keeps s.draft s.drafted;
     }
 
 -- an accepted call that appends a document
@@ -142,9 +144,10 @@ pub appended_step : {V R : Type 0} {kind : _} (s t : Shelf V R kind) (call : Cal
     → reason (brought (parts s)) (told (parts s)) (strings (parts s)) call ≡ None → k ≡ s.places.used + 1
     → answer s.mark (strings (parts s)) call ≡ Made (length (strings (parts s)).texts)
     → accepted s.store.build.now call (strings (parts s)) ≡ appended (strings (parts s)) text (length (brings call))
+    → ((h j : ℕ) → j ≡ h → DraftHeight call h j)
     → Appends (parts s) (parts t) text (brings call) (need (told (parts s)) call) → Steps s call (Ok (Made k)) t
-appended_step s t call k text none n answers makes a =
-    rw none (ap Ok (ap Made (n ∙ sym (count_texts (parts s))) ∙ sym answers), a.strings_are ∙ sym makes, a.changed)
+appended_step s t call k text none n answers makes leaves a =
+    rw none (ap Ok (ap Made (n ∙ sym (count_texts (parts s))) ∙ sym answers), a.strings_are ∙ sym makes, (a.changed, leaves _ _ a.draft))
 
 module _ (b : Brought) (t : Told) (s : State) where
   pub put_fits : (text : Bor (List ℕ)) → reason b t s (Put text) ≡ None → Fits b s text.now

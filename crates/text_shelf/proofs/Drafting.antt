@@ -46,7 +46,7 @@ pub open_step : {V R : Type 0} {kind : _} (s t : Shelf V R kind) → reason (bro
     → parts t ≡ record { store = s.store; places = s.places; draft = Some None; mark = s.mark; opened = s.opened + 1 }
     → Steps s Open (Ok (Opened (record { mark = s.mark; count = s.opened + 1 }))) t
 open_step s t none is =
-    rw none (refl, ap strings is, subst (λ p. Changed (parts s) p [] 0) (sym is) (still (parts s) (Some None) (s.opened + 1)))
+    rw none (refl, ap strings is, (subst (λ p. Changed (parts s) p [] 0) (sym is) (still (parts s) (Some None) (s.opened + 1)), ap (λ p. (told p).draft) is))
 
 module _ {V R : Type 0} {kind : _} (m : Model V R) (s : Shelf V R kind) (d : DraftId) (text : Bor (List ℕ)) (p root : Root) (store : Store V R kind)
     (none : reason (brought (parts s)) (told (parts s)) (strings (parts s)) (Add d text) ≡ None) (drafts : Drafts m (shelved (parts s)) p)
@@ -87,7 +87,7 @@ module _ {V R : Type 0} {kind : _} (m : Model V R) (s : Shelf V R kind) (d : Dra
         places = fills_none s.places.used s.places.memory.now;
         heights = λ k h. ap (λ hs. get_or (0 ∷ hs) k 0) (heights_stay s.store store g.keeps (held s.places) s.documents);
       } in
-      rw none (refl, ap strings same ∙ after, subst (λ q. Changed (parts s) q text.now (need (told (parts s)) (Add d text))) (sym same) changed)
+      rw none (refl, ap strings same ∙ after, (subst (λ q. Changed (parts s) q text.now (need (told (parts s)) (Add d text))) (sym same) changed, tt))
 
 module _ {V R : Type 0} {kind : _} (m : Model V R) (s : Shelf V R kind) (d : DraftId) (p : Root) (places : Lent Root MOST_PLACES)
     (none : reason (brought (parts s)) (told (parts s)) (strings (parts s)) (Seal d) ≡ None) (drafts : Drafts m (shelved (parts s)) p)
@@ -106,7 +106,7 @@ module _ {V R : Type 0} {kind : _} (m : Model V R) (s : Shelf V R kind) (d : Dra
   seal_step t k same n =
       let after = strings_after (parts s) (firm_of s) s.store [] 0 grows places p (draft_text (strings (parts s))) pushes drafts.fine_root (sym drafts.text_is) in
       let changed = changed_after (parts s) (firm_of s) s.store [] 0 grows places p (draft_text (strings (parts s))) pushes drafts.fine_root (sym drafts.text_is) None in
-      rw none (ap (λ j. Ok (Made j)) (n ∙ sym (count_texts (parts s))), ap strings same ∙ ap (λ z. with_draft z None) after, subst (λ q. Changed (parts s) q [] 0) (sym same) changed)
+      rw none (ap (λ j. Ok (Made j)) (n ∙ sym (count_texts (parts s))), ap strings same ∙ ap (λ z. with_draft z None) after, (subst (λ q. Changed (parts s) q [] 0) (sym same) changed, ap (λ q. (told q).draft) same))
 
 -- no draft is open, and one more can be counted
 pub none_open : (f : Root → List ℕ) (d : Option Root) (o : ℕ) → false ≡ is_some d → o < 4294967295 → first ((is_some (option_map f d) || leb 4294967295 o, DraftOpen) ∷ []) ≡ None

@@ -49,6 +49,9 @@ module _ {V R : Type 0} {kind : _} (s t : Store V R kind) (k : Keeps s t) where
   draft_stays None f = refl
   draft_stays (Some p) f = ap Some (stays p f).text_is
 
+  pub draft_height_stays : (d : Option Root) → fine (arena_of s) (root_in d) ≡ true → height_of (arena_of t) (root_in d) ≡ height_of (arena_of s) (root_in d)
+  draft_height_stays d f = (stays (root_in d) f).high
+
 pub all_fine_push : {V R : Type 0} {kind : _} (s : Store V R kind) (ps : List Root) (p : Root) → all_fine (arena_of s) ps ≡ true → fine (arena_of s) p ≡ true → all_fine (arena_of s) (ps ++ (p ∷ [])) ≡ true
 all_fine_push s [] p f g = and_from _ _ g refl
 all_fine_push s (q ∷ ps) p f g = let h = and_parts (fine (arena_of s) q) (all_fine (arena_of s) ps) f in and_from _ _ h.0 (all_fine_push s ps p h.1 g)

@@ -1,5 +1,6 @@
--- The calls that change a shelf: what each makes of the list of strings, what it needs, and why it is refused.
-use Rattle.std.specs.Prelude.{ℕ, ◌+◌, ◌-◌, max, Bool, true, false, ◌||◌, List, [], ◌∷◌, ◌++◌, length, take, drop, is_some, Some, None, Option, nat_le, nat_lt, slice_index}
+-- The calls that change a shelf: what each makes of the list of strings, what it needs, what becomes of the draft's height,
+-- and why it is refused.
+use Rattle.std.specs.Prelude.{◌≡◌, ℕ, ◌+◌, ◌-◌, max, Bool, true, false, ◌||◌, List, [], ◌∷◌, ◌++◌, length, take, drop, is_some, Some, None, Option, nat_le, nat_lt, slice_index}
 use Rattle.std.specs.List.{between}
 use Rattle.rope_cut.specs.Parts.{edit_need}
 use Rattle.rope_keep.specs.Kept.{need_of_text, add_need}
@@ -68,6 +69,20 @@ need t Open = 0
 need t (Add d text) = add_need t.draft (length text.now)
 need t (Seal d) = 0
 need t (GiveUp d) = 0
+
+-- HEIGHTS
+
+-- how high the open draft is told before and after a call: a call that is about no draft leaves that; a draft that was
+-- just opened is not high, and where one has ended there is none; what add makes of it, its tree tells
+abbrev pub DraftHeight : Call → ℕ → ℕ → Type 0
+DraftHeight (Put text) h k = k ≡ h
+DraftHeight (Take a b) h k = k ≡ h
+DraftHeight (Cut d a b) h k = k ≡ h
+DraftHeight (Splice d a b e) h k = k ≡ h
+DraftHeight Open h k = k ≡ 0
+DraftHeight (Add d text) h k = Unit {0}
+DraftHeight (Seal d) h k = k ≡ 0
+DraftHeight (GiveUp d) h k = k ≡ 0
 
 -- REFUSALS
 

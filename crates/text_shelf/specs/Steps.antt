@@ -4,7 +4,7 @@ use Rattle.std.specs.Result.{result_map_both}
 use Rattle.rope.specs.Lents.{Fills}
 use Rattle.shelf_view.specs.declared.refusal.Refusal.{Refusal}
 use Rattle.text_shelf.specs.Shelves.{Parts, parts, shelved, brought, told, strings}
-use Rattle.text_shelf.specs.Calls.{accepted, answer, need}
+use Rattle.text_shelf.specs.Calls.{accepted, answer, need, DraftHeight}
 use Rattle.text_shelf.specs.Whys.{why}
 use Rattle.text_shelf.specs.declared.call.Call.{Call}
 use Rattle.text_shelf.specs.declared.call.Call.TheVariants.{Put, Take, Cut, Splice, Open, Add, Seal, GiveUp}
@@ -43,7 +43,8 @@ Stepped (Some e) s call a t = (a ≡ Err e) × (t ≡ s)
 Stepped None s call a t =
     (a ≡ Ok (answer s.mark (strings (parts s)) call))
     × (strings (parts t) ≡ accepted s.store.build.now call (strings (parts s)))
-    × Changed (parts s) (parts t) (brings call) (need (told (parts s)) call)
+    × (Changed (parts s) (parts t) (brings call) (need (told (parts s)) call)
+    × DraftHeight call (told (parts s)).draft (told (parts t)).draft)
 
 abbrev pub Steps : {V R : Type 0} {kind : _} → Shelf V R kind → Call → Result Answer Refusal → Shelf V R kind → Type 0
 Steps s call a t = Stepped (why s call) s call a t

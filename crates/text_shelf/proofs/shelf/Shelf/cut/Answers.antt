@@ -28,6 +28,6 @@ pub returns : goal.returns
 returns g c =
     let part = c.in_ok-part.ensures in
     let push = c.push.ensures.gains in
-    appended_step c.args.self.now _ (Cut c.args.d c.args.from c.args.to) _ _ part.0 c.push.ensures.value refl refl
+    appended_step c.args.self.now _ (Cut c.args.d c.args.from c.args.to) _ _ part.0 c.push.ensures.value refl refl (λ h j e. e)
     (cut_appends g.M.Monoid.model c.args.self.now c.cut-root.new.store c.push.new.self c.cut-root.result
     push c.args.d c.args.from c.args.to c.in_ok-part.part part.1 part.0 c.cut-root.ensures)

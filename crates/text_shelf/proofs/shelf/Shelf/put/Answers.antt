@@ -24,7 +24,7 @@ returns g c =
     let made = c.keep-root.ensures in
     let push = c.push.ensures.gains in
     let none = c.in_ok-check_put.ensures.0 in
-    appended_step c.args.self.now _ (Put c.args.text) c.push.result c.args.text.now none c.push.ensures.value refl refl
+    appended_step c.args.self.now _ (Put c.args.text) c.push.result c.args.text.now none c.push.ensures.value refl refl (λ h j e. e)
     (append c.args.self.now c.keep-root.new.store c.args.text.now _ made.grows c.push.new.self c.keep-root.result c.args.text.now
     push made.stands.root made.stands.text_is
     (put_fits (brought s) (told s) (strings s) c.args.text none))

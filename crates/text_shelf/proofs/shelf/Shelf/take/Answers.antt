@@ -24,7 +24,7 @@ returns g c =
     let made = c.take_part-root.ensures in
     let push = c.push.ensures.gains in
     let none = c.in_ok-check_take.ensures.0 in
-    appended_step c.args.self.now _ (Take c.args.from c.args.to) _ _ none c.push.ensures.value refl refl
+    appended_step c.args.self.now _ (Take c.args.from c.args.to) _ _ none c.push.ensures.value refl refl (λ h j e. e)
     (append c.args.self.now c.take_part-root.new.store [] _ (takes_grows _ _ _ made.takes) c.push.new.self c.take_part-root.result _
     push made.stands.root made.stands.text_is
     (take_fits (brought s) (told s) (strings s) c.args.from c.args.to none))

@@ -1,8 +1,0 @@
--- How much memory the program's shelf has.
-use Rattle.std.specs.Prelude.{◌≡◌, length}
-use Rattle.shelf.specs.declared.memory.Memory.{Memory}
-
-pub record Sizes (m : Memory) : Type 0 where
-  pub added : length m.added.items ≡ 16384
-  pub records : length m.records.items ≡ 1024
-  pub places : length m.places.items ≡ 64
