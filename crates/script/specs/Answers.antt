@@ -1,5 +1,5 @@
 -- What a script's calls answer, and what they do to a marked shelf.
-use Rattle.std.specs.Prelude.{◌≡◌, ℕ, ◌<◌, ◌≤◌, List, [], ◌∷◌, ◌++◌, length, decimal, Some, None, Ok, Err, Option, Result, nat_lt, codes}
+use Rattle.std.specs.Prelude.{◌≡◌, ℕ, ◌<◌, ◌≤◌, List, [], ◌∷◌, ◌++◌, ◌⊎◌, ◌+◌, length, decimal, Some, None, Ok, Err, Option, Result, nat_lt, codes}
 use Rattle.std.specs.Io.KnownBytes.{Appends}
 use Rattle.std.specs.Result.{result_map_both}
 use Rattle.decimal.specs.Decimal.{Copied}
@@ -86,6 +86,14 @@ pub data Turns {V R : Type 0} {kind : _} (script : List ℕ) (i : ℕ) (s : Shel
 abbrev pub Ran : {V R : Type 0} {kind : _} → List ℕ → ℕ → Shelf V R kind → List ℕ → Shelf V R kind → List ℕ → Result Answered Refusal → Type 0
 Ran script i s old t new (Ok r) = (4102 ≤ length old) × ((a : List ℕ) × (Turn script i s a r.next t × Copied a old (Some r.len) new))
 Ran script i s old t new (Err e) = (length old < 4102) × (e ≡ SmallBuffer) × (t ≡ s) × (new ≡ old)
+
+-- what `run_into` does: turns up to the script's end, or until fewer than 4,102 bytes are left; all their answers stand at
+-- the buffer's start, with their length. It refuses as `run` does.
+abbrev pub RanInto : {V R : Type 0} {kind : _} → List ℕ → ℕ → Shelf V R kind → List ℕ → Shelf V R kind → List ℕ → Result Answered Refusal → Type 0
+RanInto script i s old t new (Ok r) =
+    (4102 ≤ length old) × ((length script ≤ r.next) ⊎ (length old < r.len + 4102))
+    × ((all : List ℕ) × (Turns script i s all r.next t × Copied all old (Some r.len) new))
+RanInto script i s old t new (Err e) = (length old < 4102) × (e ≡ SmallBuffer) × (t ≡ s) × (new ≡ old)
 
 -- what `run_all` does, for a writer that held the bytes `old` and holds the bytes `new`, where it tells them: turns up to
 -- the script's end, and all their answers are written. Where a write fails, some turns were run.

@@ -1,10 +1,11 @@
 //! Running a script on a marked shelf.
-ghost use Rattle.std.specs.Prelude.{◌≡◌, ◌≤◌, ◌<◌, List, ℕ, Result, Some, length, decimal};
+ghost use Rattle.std.specs.Prelude.{◌≡◌, ◌≤◌, ◌<◌, List, ℕ, Result, Some, MatchResult, length, decimal};
 ghost use Rattle.decimal.specs.Decimal.{Copied};
 ghost use Rattle.netstring.specs.Netstring.{netstring};
 ghost use Rattle.text_shelf.specs.Shelves.{parts, strings};
 ghost use Rattle.shelf_view.specs.declared.refusal.Refusal.{Refusal};
-ghost use Rattle.script.specs.Answers.{Turn, Ran, RanAll, Says, Wrote, numbered, mark_of, text_of};
+ghost use Rattle.shelf_view.specs.declared.refusal.Refusal.TheVariants.{SmallBuffer};
+ghost use Rattle.script.specs.Answers.{Turn, Ran, RanInto, RanAll, Says, Wrote, numbered, mark_of, text_of};
 
 use crate::answer::{
     MOST_ANSWER, MOST_TOLD, append, append_document, begin, write_digits, write_number,
@@ -119,6 +120,16 @@ fn turn<'b, 'a>(
     Answered { len, next }
 }
 
+/// Refuses a buffer that does not hold every answer.
+fn fits(out: &[u8]) -> Result<(), Refusal>
+    ensures { MatchResult result (λ u. 4102 ≤ length out.now) (λ e. (length out.now < 4102) × (e ≡ SmallBuffer)) }
+{
+    if out.len() < MOST_ANSWER {
+        return Err(Refusal::SmallBuffer);
+    }
+    Ok(())
+}
+
 /// Runs the call at the place `at` of a script, and writes its answer at the start of `out`, which needs
 /// `MOST_ANSWER` bytes. What lies behind the answer stays.
 pub fn run<'b, 'a>(
@@ -129,10 +140,30 @@ pub fn run<'b, 'a>(
 ) -> Result<Answered, Refusal>
     ensures { Ran script.now at shelf.old out.old shelf.new out.new result }
 {
-    if out.len() < MOST_ANSWER {
-        return Err(Refusal::SmallBuffer);
-    }
+    fits(out)?;
     Ok(turn(shelf, script, at, out))
+}
+
+/// Runs a script call by call from the place `at` on, while `MOST_ANSWER` bytes are left in `out`. Writes the answers at
+/// its start, and answers how many bytes they are, and the place behind the last call that was run.
+pub fn run_into<'b, 'a>(
+    shelf: &mut MarkedShelf<'b, 'a>,
+    script: &[u8],
+    at: usize,
+    out: &mut [u8],
+) -> Result<Answered, Refusal>
+    ensures { RanInto script.now at shelf.old out.old shelf.new out.new result }
+{
+    fits(out)?;
+    let mut all = Answered { len: 0, next: at };
+    while all.next < script.len() && out.len() - all.len >= MOST_ANSWER {
+        let Answered { len, next } = turn(shelf, script, all.next, &mut out[all.len..]);
+        all = Answered {
+            len: all.len + len,
+            next,
+        };
+    }
+    Ok(all)
 }
 
 /// Runs a script call by call from the place `at` on, and writes each answer as it comes.

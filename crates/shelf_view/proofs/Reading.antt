@@ -20,13 +20,11 @@ use Rattle.zemor.specs.Laws.{same, lawful}
 use Rattle.zemor.proofs.Writing.{hex_back}
 use Rattle.rope.specs.Arena.{text_of}
 use Rattle.shelf_view.specs.State.{Shelved, state_of, text_at}
-use Rattle.shelf_view.specs.Questions.{of_part, of_copy}
 use Rattle.shelf_view.specs.Places.{Span}
-use Rattle.shelf_view.specs.Marked.{marked, fingerprint, written, Gives, earlier, misshapen, none_gives, ReadsBack, Around}
+use Rattle.shelf_view.specs.Marked.{marked, fingerprint, written, in_part, in_between, Gives, earlier, misshapen, none_gives, ReadsBack, of_buffer, Around}
 use Rattle.shelf_view.specs.declared.refusal.Refusal.{Refusal}
 use Rattle.shelf_view.specs.declared.refusal.Refusal.TheVariants.{SmallBuffer, BadFingerprint, NoWindow}
 use Rattle.shelf_view.specs.declared.view.part.Part.{Part}
-use Rattle.shelf_view.proofs.Copying.{room_for}
 use Rattle.shelf_view.proofs.Marking.{first_half}
 
 -- a fingerprint is told by its digits
@@ -36,29 +34,41 @@ written_back x y e = same x y (sym (hex_back x).1 ∙ ap (λ t. entries_of (unhe
 three : (u w v : List ℕ) → fingerprint (u ++ (w ++ v)) ≡ sl2.joined (fingerprint u) (sl2.joined (fingerprint w) (fingerprint v))
 three u w v = fold_append sl2 lawful u (w ++ v) ∙ ap (sl2.joined (fingerprint u)) (fold_append sl2 lawful w v)
 
-module _ (digits text : List ℕ) (a b : ℕ) (x front back : Sl2) (is : written x ≡ digits)
-    (ef : front ≡ fingerprint (take a text)) (eb : back ≡ fingerprint (drop b text)) where
-  whole_of : (w : List ℕ) → fingerprint (take a text ++ (w ++ drop b text)) ≡ sl2.joined front (sl2.joined (fingerprint w) back)
-  whole_of w =
-      three (take a text) w (drop b text) ∙ ap (λ f. sl2.joined f (sl2.joined (fingerprint w) (fingerprint (drop b text)))) (sym ef)
-      ∙ ap (λ v. sl2.joined front (sl2.joined (fingerprint w) v)) (sym eb)
+-- between the fingerprints of what stands before and behind a part, a window gives what it gives in the part's place
+pub part_between : (text : List ℕ) (a b : ℕ) (front back : Sl2) → front ≡ fingerprint (take a text) → back ≡ fingerprint (drop b text) → in_between front back ≡ in_part text a b
+part_between text a b front back ef eb =
+    λ i w. (ap (λ f. in_between f back w) ef ∙ ap (λ v. in_between (fingerprint (take a text)) v w) eb ∙ sym (three (take a text) w (drop b text))) i
 
-  by_values : (w : List ℕ) → Gives text a b digits w → window.Gives front back x w
-  by_values w g = record { short = g.short; whole = sym (whole_of w) ∙ written_back _ x (g.whole ∙ sym is) }
+module _ (digits : List ℕ) (x front back : Sl2) (is : written x ≡ digits) where
+  by_value : (w : List ℕ) → Gives (in_between front back) digits w → window.Gives front back x w
+  by_value w g = record { short = g.short; whole = written_back _ x (g.same ∙ sym is) }
 
-  by_texts : (w : List ℕ) → window.Gives front back x w → Gives text a b digits w
-  by_texts w g = record { short = g.short; whole = ap written (whole_of w ∙ g.whole) ∙ is }
-
-  pub none_found : ReadBack front back x None → (w : List ℕ) → Gives text a b digits w → ⊥
-  none_found r w g = r w (by_values w g)
-
-  pub found : (s : Window) → ReadBack front back x (Some s) → Gives text a b digits (window_text s) × ((v : List ℕ) → Gives text a b digits v → v ≡ window_text s)
-  found s r = (by_texts (window_text s) r.0, λ v g. r.1 v (by_values v g))
+  by_digits : (w : List ℕ) → window.Gives front back x w → Gives (in_between front back) digits w
+  by_digits w g = record { short = g.short; same = ap written g.whole ∙ is }
 
 -- the refusal of an `ok_or`
 pub refused_as : {A : Type 0} (o : Option A) {e why : Refusal} → ◌≡◌ {A = Result A Refusal} (Err e) (ok_or o why) → e ≡ why
 refused_as None h = cc
 refused_as (Some x) h = cc
+
+module _ (n : ℕ) (old digits : List ℕ) (front back : Sl2) where
+  pub refused_buffer : n < 5 → ReadsBack (of_buffer n) (in_between front back) digits old old (Err SmallBuffer)
+  refused_buffer k = (earlier (grind (arith, common_steps, nat_tests)), refl)
+
+  enough : 5 ≤ n → of_buffer n ≡ None
+  enough k = grind (arith, common_steps, nat_tests)
+
+  pub refused_form : 5 ≤ n → ¬ (WellFormed digits) → ReadsBack (of_buffer n) (in_between front back) digits old old (Err BadFingerprint)
+  refused_form k bad = (misshapen (enough k) bad, refl)
+
+  module _ (x : Sl2) (k : 5 ≤ n) (r : ReadHex digits (Some x)) where
+    pub refused_window : ReadBack front back x None → ReadsBack (of_buffer n) (in_between front back) digits old old (Err NoWindow)
+    refused_window none = (none_gives (enough k) r.0 (λ w g. none w (by_value digits x front back r.2 w g)), refl)
+
+    pub told : (w : Window) (m : ℕ) (new : List ℕ) → ReadBack front back x (Some w) → m ≡ length (window_text w) → new ≡ window_text w ++ drop m old
+        → ReadsBack (of_buffer n) (in_between front back) digits old new (Ok m)
+    told w m new some long after =
+        (enough k, r.0, (window_text w, (by_digits digits x front back r.2 (window_text w) some.0, λ v g. some.1 v (by_value digits x front back r.2 v g), long, after)))
 
 module _ (s : Shelved (Pair Entries LineColumn)) where
   pub around : (p : Part) (t : List ℕ) (v w : Pair Sl2 LineColumn) (n : ℕ) → t ≡ text_of s.arena p.root → n ≡ length t
@@ -68,32 +78,9 @@ module _ (s : Shelved (Pair Entries LineColumn)) where
     first_half (between p.to n t) w ew ∙ ap fingerprint (between_to_end t p.to n (omega arith) ∙ ap (drop p.to) is),
   )
 
-  module _ (d a b n : ℕ) (old digits : List ℕ) where
-    -- the reasons before the fingerprint is looked at
-    pub refused_part : (e : Refusal) → of_part (state_of s) d a b ≡ Some e → ReadsBack (of_copy (state_of s) d a b 5 n) (text_at (state_of s) d) a b digits old old (Err e)
-    refused_part e h = (earlier (grind (arith, common_steps)), refl)
-
-    pub refused_buffer : of_part (state_of s) d a b ≡ None → n < 5 → ReadsBack (of_copy (state_of s) d a b 5 n) (text_at (state_of s) d) a b digits old old (Err SmallBuffer)
-    refused_buffer h k = (earlier (grind (arith, common_steps, nat_tests)), refl)
-
-    pub refused_form : of_part (state_of s) d a b ≡ None → 5 ≤ n → ¬ (WellFormed digits)
-        → ReadsBack (of_copy (state_of s) d a b 5 n) (text_at (state_of s) d) a b digits old old (Err BadFingerprint)
-    refused_form h k bad = (misshapen (room_for marked s d a b 5 n h k) bad, refl)
-
-    module _ (p : Part) (x front back : Sl2) (h : of_part (state_of s) d a b ≡ None) (g : Span marked s d a b p) (k : 5 ≤ n)
-        (r : ReadHex digits (Some x)) (e : Around s p front back) where
-      front_is : front ≡ fingerprint (take a (text_at (state_of s) d))
-      front_is = e.0 ∙ ap (λ i. fingerprint (take i (text_of s.arena p.root))) g.from_is ∙ ap (λ t. fingerprint (take a t)) (sym g.lies.text_is)
-
-      back_is : back ≡ fingerprint (drop b (text_at (state_of s) d))
-      back_is = e.1 ∙ ap (λ i. fingerprint (drop i (text_of s.arena p.root))) g.to_is ∙ ap (λ t. fingerprint (drop b t)) (sym g.lies.text_is)
-
-      pub refused_window : ReadBack front back x None → ReadsBack (of_copy (state_of s) d a b 5 n) (text_at (state_of s) d) a b digits old old (Err NoWindow)
-      refused_window none =
-          (none_gives (room_for marked s d a b 5 n h k) r.0 (none_found digits (text_at (state_of s) d) a b x front back r.2 front_is back_is none), refl)
-
-      pub told : (w : Window) (m : ℕ) (new : List ℕ) → ReadBack front back x (Some w) → m ≡ length (window_text w) → new ≡ window_text w ++ drop m old
-          → ReadsBack (of_copy (state_of s) d a b 5 n) (text_at (state_of s) d) a b digits old new (Ok m)
-      told w m new some long after =
-          let f = found digits (text_at (state_of s) d) a b x front back r.2 front_is back_is w some in
-          (room_for marked s d a b 5 n h k, r.0, (window_text w, (f.0, f.1, long, after)))
+  module _ (d a b : ℕ) (p : Part) (front back : Sl2) (g : Span marked s d a b p) (e : Around s p front back) where
+    pub around_part : in_between front back ≡ in_part (text_at (state_of s) d) a b
+    around_part =
+        part_between (text_at (state_of s) d) a b front back
+        (e.0 ∙ ap (λ i. fingerprint (take i (text_of s.arena p.root))) g.from_is ∙ ap (λ t. fingerprint (take a t)) (sym g.lies.text_is))
+        (e.1 ∙ ap (λ i. fingerprint (drop i (text_of s.arena p.root))) g.to_is ∙ ap (λ t. fingerprint (drop b t)) (sym g.lies.text_is))

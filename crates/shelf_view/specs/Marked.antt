@@ -1,5 +1,5 @@
 -- The questions of a marked shelf, which keeps the pair of Zémor's product and line-column: its fingerprints.
-use Rattle.std.specs.Prelude.{◌≡◌, ℕ, ◌<◌, ◌≤◌, List, ◌++◌, length, take, drop, Some, None, Ok, Err, Option, Result}
+use Rattle.std.specs.Prelude.{◌≡◌, ℕ, ◌<◌, ◌≤◌, List, [], ◌∷◌, ◌++◌, length, take, drop, Some, None, Ok, Err, Option, Result, nat_lt}
 use Rattle.monoid.specs.Monoid.{Model, fold_of}
 use Rattle.monoid.specs.LineColumnValues.{line_column_model}
 use Rattle.monoid.specs.Pair.{pair_model}
@@ -11,9 +11,10 @@ use Rattle.zemor.specs.Written.{hex, bytes_of, WellFormed}
 use Rattle.zemor.specs.declared.matrix.Entries.{Entries}
 use Rattle.zemor.specs.declared.matrix.Sl2.{Sl2}
 use Rattle.rope.specs.Arena.{text_of}
+use Rattle.shelf_view.specs.Refusals.{first}
 use Rattle.shelf_view.specs.State.{Shelved}
 use Rattle.shelf_view.specs.declared.refusal.Refusal.{Refusal}
-use Rattle.shelf_view.specs.declared.refusal.Refusal.TheVariants.{BadFingerprint, NoWindow}
+use Rattle.shelf_view.specs.declared.refusal.Refusal.TheVariants.{SmallBuffer, BadFingerprint, NoWindow}
 use Rattle.shelf_view.specs.declared.view.part.Part.{Part}
 use Rattle.shelf_view.specs.declared.sameness.Sameness.{Sameness}
 use Rattle.shelf_view.specs.declared.sameness.Sameness.TheVariants.{Different, Equal, Alike}
@@ -34,24 +35,36 @@ Compares n s t Different = ¬ (fingerprint s ≡ fingerprint t)
 Compares n s t Equal = (n ≤ 5) × (fingerprint s ≡ fingerprint t) × (s ≡ t)
 Compares n s t Alike = (5 < n) × (fingerprint s ≡ fingerprint t)
 
--- the window w, in the place of the part a to b of the text, gives this fingerprint
-pub record Gives (text : List ℕ) (a b : ℕ) (digits w : List ℕ) : Type 0 where
+-- the fingerprint that a window w gives: in the place of the part a to b of the text,
+abbrev pub in_part : List ℕ → ℕ → ℕ → List ℕ → Sl2
+in_part text a b w = fingerprint (take a text ++ (w ++ drop b text))
+
+-- and between what has the fingerprints front and back
+abbrev pub in_between : Sl2 → Sl2 → List ℕ → Sl2
+in_between front back w = sl2.joined front (sl2.joined (fingerprint w) back)
+
+-- the window w gives this fingerprint
+pub record Gives (whole : List ℕ → Sl2) (digits w : List ℕ) : Type 0 where
   pub short : Short w
-  pub whole : written (fingerprint (take a text ++ (w ++ drop b text))) ≡ digits
+  pub same : written (whole w) ≡ digits
 
 -- why read-back is refused: for an earlier reason, since the fingerprint is not well formed, or since no window gives it
-pub data Unread (why : Option Refusal) (text : List ℕ) (a b : ℕ) (digits : List ℕ) : Refusal → Type 0 where
-  earlier : {e : Refusal} → why ≡ Some e → Unread why text a b digits e
-  misshapen : why ≡ None → ¬ (WellFormed digits) → Unread why text a b digits BadFingerprint
-  none_gives : why ≡ None → WellFormed digits → ((w : List ℕ) → Gives text a b digits w → ⊥) → Unread why text a b digits NoWindow
+pub data Unread (why : Option Refusal) (whole : List ℕ → Sl2) (digits : List ℕ) : Refusal → Type 0 where
+  earlier : {e : Refusal} → why ≡ Some e → Unread why whole digits e
+  misshapen : why ≡ None → ¬ (WellFormed digits) → Unread why whole digits BadFingerprint
+  none_gives : why ≡ None → WellFormed digits → ((w : List ℕ) → Gives whole digits w → ⊥) → Unread why whole digits NoWindow
 
 -- the one window that gives the fingerprint stands at the buffer's start, and its length is answered; what lies behind
 -- keeps its bytes, and a refusal leaves the buffer as it was
-abbrev pub ReadsBack : Option Refusal → List ℕ → ℕ → ℕ → List ℕ → List ℕ → List ℕ → Result ℕ Refusal → Type 0
-ReadsBack why text a b digits old new (Ok n) =
+abbrev pub ReadsBack : Option Refusal → (List ℕ → Sl2) → List ℕ → List ℕ → List ℕ → Result ℕ Refusal → Type 0
+ReadsBack why whole digits old new (Ok n) =
     (why ≡ None) × WellFormed digits
-    × ((w : List ℕ) × (Gives text a b digits w × ((v : List ℕ) → Gives text a b digits v → v ≡ w) × (n ≡ length w) × (new ≡ w ++ drop n old)))
-ReadsBack why text a b digits old new (Err e) = Unread why text a b digits e × (new ≡ old)
+    × ((w : List ℕ) × (Gives whole digits w × ((v : List ℕ) → Gives whole digits v → v ≡ w) × (n ≡ length w) × (new ≡ w ++ drop n old)))
+ReadsBack why whole digits old new (Err e) = Unread why whole digits e × (new ≡ old)
+
+-- why a window is not written, where the buffer has n bytes
+abbrev pub of_buffer : ℕ → Option Refusal
+of_buffer n = first ((nat_lt n 5, SmallBuffer) ∷ [])
 
 -- the fingerprints of what stands before and behind a part
 abbrev pub Around : Shelved (Pair Entries LineColumn) → Part → Sl2 → Sl2 → Type 0

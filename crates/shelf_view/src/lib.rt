@@ -5,3 +5,4 @@ pub mod draft_id;
 pub mod refusal;
 pub mod sameness;
 pub mod view;
+pub mod window;

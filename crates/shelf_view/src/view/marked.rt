@@ -1,20 +1,20 @@
-ghost use Rattle.std.specs.Prelude.{◌≡◌, ◌+◌, ◌≤◌, ◌++◌, length, drop};
+ghost use Rattle.std.specs.Prelude.{◌≡◌, ◌+◌, length};
 ghost use Rattle.std.specs.List.{between};
 ghost use Rattle.shelf_view.specs.Refusals.{Answers};
 ghost use Rattle.shelf_view.specs.State.{shown, strings, text_at};
 ghost use Rattle.shelf_view.specs.Questions.{of_part, of_copy, of_same};
 ghost use Rattle.shelf_view.specs.Places.{Within};
-ghost use Rattle.shelf_view.specs.Marked.{fingerprint, Compares, Around, ReadsBack};
+ghost use Rattle.shelf_view.specs.Marked.{fingerprint, Compares, Around, in_part, ReadsBack};
 
 use super::View;
 use super::part::Part;
 use crate::refusal::Refusal;
 use crate::sameness::Sameness;
+use crate::window::read_between;
 use monoid::line_column::LineColumn;
 use monoid::pair::Pair;
 use rope_read::text::Text;
 use zemor::matrix::Sl2;
-use zemor::window::ops::read_back;
 
 impl<'v> View<'v, Pair<Sl2, LineColumn>> {
     /// The fingerprint of the `n` bytes from `a` in document `d`, where they are a lawful part.
@@ -67,26 +67,10 @@ impl<'v> View<'v, Pair<Sl2, LineColumn>> {
         fingerprint: &[u8],
         out: &mut [u8],
     ) -> Result<usize, Refusal>
-        ensures { ReadsBack (of_copy (strings self.now) d a b 5 (length out.old)) (text_at (strings self.now) d) a b fingerprint.now out.old out.new result }
+        ensures { ReadsBack (of_copy (strings self.now) d a b 5 (length out.old)) (in_part (text_at (strings self.now) d) a b) fingerprint.now out.old out.new result }
     {
         let part = self.part(d, a, b)?;
-        if out.len() < 5 {
-            return Err(Refusal::SmallBuffer);
-        }
-        let whole = Sl2::from_hex(fingerprint).ok_or(Refusal::BadFingerprint)?;
         let (front, back) = self.around(part);
-        let window = read_back(front, whole, back).ok_or(Refusal::NoWindow)?;
-        Ok(write_start(window.as_slice(), out))
+        read_between(front, fingerprint, back, out)
     }
-}
-
-/// Writes `text` at the start of `out`, and answers its length. The caller has tested that it fits, so it cannot refuse as
-/// the writer of netstrings does.
-fn write_start(text: &[u8], out: &mut [u8]) -> usize
-    requires { length text.now ≤ length out.old }
-    ensures value { result ≡ length text.now }
-    ensures after { out.new ≡ text.now ++ drop (length text.now) out.old }
-{
-    out[0..text.len()].copy_from_slice(text);
-    text.len()
 }

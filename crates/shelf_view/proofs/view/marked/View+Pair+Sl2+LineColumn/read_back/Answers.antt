@@ -1,52 +1,28 @@
-use Rattle.std.proofs.Common.{◌++◌, length, drop, sym, ap, ◌∙◌, subst}
+use Rattle.std.proofs.Common.{[], ◌∷◌, length, refl, ap, ◌∙◌, sym, subst, nat_lt}
 use Rattle.std.proofs.lemmas.Result.{err_from_is_err_and}
-use Rattle.zemor.specs.Windows.{ReadBack, window_text}
-use Rattle.zemor.specs.Written.{ReadHex}
-use Rattle.shelf_view.specs.State.{shown}
-use Rattle.shelf_view.proofs.Reading.{refused_as, refused_part, refused_buffer, refused_form, refused_window, told}
+use Rattle.shelf_view.specs.State.{shown, strings, text_at, unknown, bad_part}
+use Rattle.shelf_view.specs.Marked.{in_part, earlier, ReadsBack, of_buffer}
+use Rattle.shelf_view.specs.declared.refusal.Refusal.TheVariants.{NoDocument, BadPart, SmallBuffer}
+use Rattle.shelf_view.proofs.Firsts.{first_stays, first_then}
+use Rattle.shelf_view.proofs.Reading.{around_part}
 use Rattle.shelf_view.proofs.view.marked.View+Pair+Sl2+LineColumn.read_back.Goals as goal
 
 pub returns-in_err-part : goal.returns-in_err-part
 returns-in_err-part c =
+    let s = strings c.args.self.now in
+    let part = (unknown s c.args.d, NoDocument) ∷ (bad_part (text_at s c.args.d) c.args.a c.args.b, BadPart) ∷ [] in
     let p = err_from_is_err_and c.from_residual.result c.from_residual.ensures.1 in
-    rw (p.1, p.2) (refused_part (shown c.args.self.now) c.args.d c.args.a c.args.b (length c.args.out.now) c.args.out.now c.args.fingerprint.now _ c.in_err-part.ensures)
-
-pub returns-then-out-lt5 : goal.returns-then-out-lt5
-returns-then-out-lt5 c =
-    refused_buffer (shown c.args.self.now) c.args.d c.args.a c.args.b (length c.args.out.now) c.args.out.now c.args.fingerprint.now
-    c.in_ok-part.ensures.0 c.if-out-lt5.true
-
-pub returns-in_err-whole : goal.returns-in_err-whole
-returns-in_err-whole c =
-    let p = err_from_is_err_and c.from_residual-in_err-whole.result c.from_residual-in_err-whole.ensures.1 in
-    let none = c.in_err-whole.ensures in
-    rw (p.1, p.2, refused_as c.from_hex.result none.value)
-    (refused_form (shown c.args.self.now) c.args.d c.args.a c.args.b (length c.args.out.now) c.args.out.now c.args.fingerprint.now
-    c.in_ok-part.ensures.0 c.if-out-lt5.false (subst (ReadHex c.args.fingerprint.now) none.ok_part c.from_hex.ensures))
-
-pub returns-in_err-window : goal.returns-in_err-window
-returns-in_err-window c =
-    let p = err_from_is_err_and c.from_residual-in_err-window.result c.from_residual-in_err-window.ensures.1 in
-    let part = c.in_ok-part.ensures in
-    let whole = c.in_ok-whole.whole in
-    let none = c.in_err-window.ensures in
-    rw (p.1, p.2, refused_as c.read_back.result none.value)
-    (refused_window (shown c.args.self.now) c.args.d c.args.a c.args.b (length c.args.out.now) c.args.out.now c.args.fingerprint.now
-    c.in_ok-part.part whole c.around.result.0 c.around.result.1 part.0 part.1 c.if-out-lt5.false
-    (subst (ReadHex c.args.fingerprint.now) c.in_ok-whole.ensures.ok_part c.from_hex.ensures) c.around.ensures
-    (subst (ReadBack c.around.result.0 c.around.result.1 whole) none.ok_part c.read_back.ensures))
+    rw (p.1, p.2) (earlier (first_stays part ((nat_lt (length c.args.out.now) 5, SmallBuffer) ∷ []) _ c.in_err-part.ensures), refl)
 
 pub returns : goal.returns
 returns c =
-    let part = c.in_ok-part.ensures in
-    let whole = c.in_ok-whole.whole in
-    let window = c.in_ok-window.window in
+    let s = strings c.args.self.now in
     let old = c.args.out.now in
-    let text = c.as_slice.ensures in
-    let long = c.write_start.ensures.value ∙ ap length text in
-    told (shown c.args.self.now) c.args.d c.args.a c.args.b (length old) old c.args.fingerprint.now
-    c.in_ok-part.part whole c.around.result.0 c.around.result.1 part.0 part.1 c.if-out-lt5.false
-    (subst (ReadHex c.args.fingerprint.now) c.in_ok-whole.ensures.ok_part c.from_hex.ensures) c.around.ensures
-    window c.write_start.result c.write_start.new.out
-    (subst (ReadBack c.around.result.0 c.around.result.1 whole) c.in_ok-window.ensures.ok_part c.read_back.ensures) long
-    (c.write_start.ensures.after ∙ ap (λ t. t ++ drop (length t) old) text ∙ ap (λ i. window_text window ++ drop i old) (sym long))
+    let digits = c.args.fingerprint.now in
+    let part = (unknown s c.args.d, NoDocument) ∷ (bad_part (text_at s c.args.d) c.args.a c.args.b, BadPart) ∷ [] in
+    let front = c.around.result.0 in
+    let back = c.around.result.1 in
+    let whole = around_part (shown c.args.self.now) c.args.d c.args.a c.args.b c.in_ok-part.part front back c.in_ok-part.ensures.1 c.around.ensures in
+    subst (λ why. ReadsBack why (in_part (text_at s c.args.d) c.args.a c.args.b) digits old c.read_between.new.out c.read_between.result)
+    (sym (first_then part ((nat_lt (length old) 5, SmallBuffer) ∷ []) c.in_ok-part.ensures.0))
+    (subst (λ f. ReadsBack (of_buffer (length old)) f digits old c.read_between.new.out c.read_between.result) whole c.read_between.ensures)
