@@ -13,7 +13,7 @@ use Rattle.vault.proofs.calls.read_back.Goals as goal
 pub returns-then-from-to : goal.returns-then-from-to
 returns-then-from-to c =
     elim c.then-from-to.branch [
-      then-from-to-via-then-from-to w ↦ (earlier (grind (arith, common_steps, nat_tests)), refl)
+      | then-from-to-via-then-from-to w ↦ (earlier (grind (arith, common_steps, nat_tests)), refl)
       | then-from-to-via-else-from-to+then-to-text w ↦ (earlier (grind (arith, common_steps, nat_tests)), refl)
     ]
 
