@@ -10,7 +10,7 @@ use Rattle.rope.specs.Memory.{Keeps, Free, Takes}
 use Rattle.rope.specs.Arena.{Root}
 use Rattle.rope.specs.declared.store.Store.{Store}
 use Rattle.rope.proofs.Keeping.{keeps_tree, takes_none, takes_trans, takes_within, free_after}
-use Rattle.rope_cut.specs.Parts.{Rooted, Makes, text_in, height_in, higher, cut_cost, join_cost, edit_need}
+use Rattle.rope_cut.specs.Parts.{Rooted, Makes, Spliceable, spliced, text_in, height_in, higher, cut_cost, join_cost, splice_cost, edit_need}
 
 -- a root stays one, with its text and its height
 pub record Stays {V R : Type 0} {kind : _} (s s' : Store V R kind) (p : Root) : Type 0 where
@@ -46,23 +46,21 @@ cut_done {s} p a b x y =
     }
 
 module _ {V R : Type 0} {kind : _} {s s1 : Store V R kind} {p q before : Root} {a b : ℕ}
-    (rooted_both : Rooted s p × Rooted s q) (ordered : (a ≤ b) × (b ≤ length (text_in s p)))
-    (short : length (text_in s p) - (b - a) + length (text_in s q) < 2 ^ 32) (free : Free s (edit_need (higher s p q)))
-    (x : Makes s s1 before (take a (text_in s p)) (cut_cost (height_in s p) (height_in s1 before)) (height_in s p)) where
+    (h : Spliceable s p a b q) (x : Makes s s1 before (take a (text_in s p)) (cut_cost (height_in s p) (height_in s1 before)) (height_in s p)) where
   p1 : Stays s s1 p
-  p1 = root_stays x.takes.keeps p rooted_both.0.root
+  p1 = root_stays x.takes.keeps p h.rooted.0.root
 
   q1 : Stays s s1 q
-  q1 = root_stays x.takes.keeps q rooted_both.1.root
+  q1 = root_stays x.takes.keeps q h.rooted.1.root
 
   pub second_rooted : Rooted s1 p
-  second_rooted = rooted_stays p1 rooted_both.0
+  second_rooted = rooted_stays p1 h.rooted.0
 
   pub second_within : b ≤ length (text_in s1 p)
-  second_within = omega (arith, ap length p1.text_is, ordered.1)
+  second_within = omega (arith, ap length p1.text_is, h.part.1)
 
   pub second_free : Free s1 (4 * height_in s1 p + 1)
-  second_free = free_after (4 * height_in s1 p + 1) (edit_need (higher s p q)) (omega (arith, x.low, p1.high)) free x.takes
+  second_free = free_after (4 * height_in s1 p + 1) (edit_need (higher s p q)) (omega (arith, x.low, p1.high)) h.free x.takes
 
   module _ {s2 : Store V R kind} {behind : Root} (y : Makes s1 s2 behind (drop b (text_in s1 p)) (cut_cost (height_in s1 p) (height_in s2 behind)) (height_in s1 p)) where
     q2 : Stays s1 s2 q
@@ -81,19 +79,19 @@ module _ {V R : Type 0} {kind : _} {s s1 : Store V R kind} {p q before : Root} {
     other_is = q2.text_is ∙ q1.text_is
 
     before_size : length (text_in s1 before) ≡ a
-    before_size = ap length x.text_is ∙ length-take-le a (text_in s p) (omega (arith, ordered.0, ordered.1))
+    before_size = ap length x.text_is ∙ length-take-le a (text_in s p) (omega (arith, h.part.0, h.part.1))
 
     two : Takes s s2 (8 * height_in s p + 2)
     two = takes_within (8 * height_in s p + 2) (omega (arith, x.low, y.low, p1.high)) (takes_trans x.takes y.takes)
 
     pub tail_rooted : Rooted s2 q × Rooted s2 behind
-    tail_rooted = (rooted_stays q2 (rooted_stays q1 rooted_both.1), record { root = y.root; short = omega (arith, behind_size, rooted_both.0.short) })
+    tail_rooted = (rooted_stays q2 (rooted_stays q1 h.rooted.1), record { root = y.root; short = omega (arith, behind_size, h.rooted.0.short) })
 
     pub tail_short : length (text_in s2 q) + length (text_in s2 behind) < 2 ^ 32
-    tail_short = omega (arith, ap length other_is, behind_size, short, ordered.0)
+    tail_short = omega (arith, ap length other_is, behind_size, h.short, h.part.0)
 
     pub tail_free : Free s2 (join_cost s2 q behind)
-    tail_free = free_after (join_cost s2 q behind) (edit_need (higher s p q)) (omega (arith, q1.high, q2.high, y.low, p1.high)) free two
+    tail_free = free_after (join_cost s2 q behind) (edit_need (higher s p q)) (omega (arith, q1.high, q2.high, y.low, p1.high)) h.free two
 
     module _ {s3 : Store V R kind} {tail : Root} (z : Makes s2 s3 tail (text_in s2 q ++ text_in s2 behind) (join_cost s2 q behind) (higher s2 q behind + 1)) where
       before3 : Stays s2 s3 before
@@ -119,21 +117,21 @@ module _ {V R : Type 0} {kind : _} {s s1 : Store V R kind} {p q before : Root} {
 
       pub last_rooted : Rooted s3 before × Rooted s3 tail
       last_rooted = (
-        record { root = before3.root; short = omega (arith, ap length before3.text_is, ap length before2.text_is, before_size, ordered.0, ordered.1, rooted_both.0.short) },
-        record { root = z.root; short = omega (arith, tail_size, short, ordered.0) },
+        record { root = before3.root; short = omega (arith, ap length before3.text_is, ap length before2.text_is, before_size, h.part.0, h.part.1, h.rooted.0.short) },
+        record { root = z.root; short = omega (arith, tail_size, h.short, h.part.0) },
       )
 
       pub last_short : length (text_in s3 before) + length (text_in s3 tail) < 2 ^ 32
-      last_short = omega (arith, ap length before3.text_is, ap length before2.text_is, before_size, tail_size, short, ordered.0, ordered.1)
+      last_short = omega (arith, ap length before3.text_is, ap length before2.text_is, before_size, tail_size, h.short, h.part.0, h.part.1)
 
       pub last_free : Free s3 (join_cost s3 before tail)
-      last_free = free_after (join_cost s3 before tail) (edit_need (higher s p q)) (omega (arith, before_low, tail_low)) free three
+      last_free = free_after (join_cost s3 before tail) (edit_need (higher s p q)) (omega (arith, before_low, tail_low)) h.free three
 
-      pub splice_done : {s4 : Store V R kind} {r : Root} → Makes s3 s4 r (text_in s3 before ++ text_in s3 tail) (join_cost s3 before tail) (higher s3 before tail + 1)
-          → Makes s s4 r (take a (text_in s p) ++ (text_in s q ++ drop b (text_in s p))) (edit_need (higher s p q)) (higher s p q + 2)
-      splice_done v =
+      pub replaced : {s4 : Store V R kind} {r : Root} → Makes s3 s4 r (text_in s3 before ++ text_in s3 tail) (join_cost s3 before tail) (higher s3 before tail + 1)
+          → Makes s s4 r (spliced s p a b q) (splice_cost (higher s p q) (height_in s4 r)) (higher s p q + 2)
+      replaced {s4} {r} v =
           record {
-            takes = takes_within (edit_need (higher s p q)) (omega (arith, before_low, tail_low)) (takes_trans three v.takes);
+            takes = takes_within (splice_cost (higher s p q) (height_in s4 r)) (omega (arith, before_low, tail_low)) (takes_trans three v.takes);
             root = v.root;
             text_is = v.text_is ∙ ap (λ (t : List ℕ). t ++ text_in s3 tail) before_is ∙ ap (λ (t : List ℕ). take a (text_in s p) ++ t) tail_is;
             low = omega (arith, v.low, before_low, tail_low);

@@ -1,5 +1,5 @@
 -- What the edits of a tree need and give.
-use Rattle.std.specs.Prelude.{◌≡◌, ℕ, ◌+◌, ◌-◌, ◌*◌, ◌^◌, ◌<◌, ◌≤◌, max, true, List, length}
+use Rattle.std.specs.Prelude.{◌≡◌, ℕ, ◌+◌, ◌-◌, ◌*◌, ◌^◌, ◌<◌, ◌≤◌, max, true, List, ◌++◌, length, take, drop}
 use Rattle.rope.specs.Tree.{Tree, text, size, height}
 use Rattle.rope.specs.Arena.{text_of, height_of, rooted}
 use Rattle.rope.specs.Memory.{arena_of, tree_of, Free, Takes}
@@ -52,3 +52,18 @@ join_cost s p q = 3 * ((height_in s p - height_in s q) + (height_in s q - height
 -- the need of an edit of texts that are at most h high
 abbrev pub edit_need : ℕ → ℕ
 edit_need h = 32 * (h + 1)
+
+-- the records that a splice of texts that are at most h high may take, where the text that it makes is k high
+abbrev pub splice_cost : ℕ → ℕ → ℕ
+splice_cost h k = 14 * h + 3 * k + 7
+
+-- what it takes to replace the part a to b of the text at p by that at q
+pub record Spliceable {V R : Type 0} {kind : _} (s : Store V R kind) (p : Root) (a b : ℕ) (q : Root) : Type 0 where
+  pub rooted : Rooted s p × Rooted s q
+  pub part : (a ≤ b) × (b ≤ length (text_in s p))
+  pub short : length (text_in s p) - (b - a) + length (text_in s q) < 2 ^ 32
+  pub free : Free s (edit_need (higher s p q))
+
+-- the text at p with its part a to b replaced by that at q
+abbrev pub spliced : {V R : Type 0} {kind : _} → Store V R kind → Root → ℕ → ℕ → Root → List ℕ
+spliced s p a b q = take a (text_in s p) ++ (text_in s q ++ drop b (text_in s p))

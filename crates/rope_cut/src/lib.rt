@@ -3,11 +3,11 @@
 //! arguments, as in `rope_join`; a part is two places, of which one at a time goes down the tree.
 #![tactic(auto)]
 
-ghost use Rattle.std.specs.Prelude.{◌+◌, ◌-◌, ◌*◌, ◌^◌, ◌<◌, ◌≤◌, ◌++◌, length, take, drop};
+ghost use Rattle.std.specs.Prelude.{◌≡◌, ◌+◌, ◌-◌, ◌*◌, ◌^◌, ◌<◌, ◌≤◌, ◌++◌, length, take, drop};
 ghost use Rattle.std.specs.List.{between};
 ghost use Rattle.rope.specs.Tree.{text, size};
 ghost use Rattle.rope.specs.Memory.{Free, tree_of};
-ghost use Rattle.rope_cut.specs.Parts.{Partable, Parted, Rooted, Makes, cut_cost, join_cost, edit_need, text_in, height_in, higher};
+ghost use Rattle.rope_cut.specs.Parts.{Partable, Parted, Rooted, Makes, Spliceable, spliced, cut_cost, join_cost, splice_cost, edit_need, text_in, height_in, higher};
 
 use monoid::Monoid;
 use rope::record::{Piece, Root, Shape};
@@ -123,6 +123,62 @@ pub fn cut<'b, 'a, M: Monoid>(store: &mut Store<'b, 'a, M>, root: Root, a: u32, 
     back(store, before, a)
 }
 
+/// The height of the tree at `root`, or 0.
+fn root_height<'b, 'a, M: Monoid>(store: &Store<'b, 'a, M>, root: Root) -> u8
+    requires { Rooted store.now root }
+    ensures { result ≡ height_in store.now root }
+{
+    match root {
+        Some(i) => store.record(i).height,
+        None => 0,
+    }
+}
+
+/// The text at `root` with its part `a` to `b` replaced by that at `other`, from a front and a back of the whole tree.
+fn replace<'b, 'a, M: Monoid>(
+    store: &mut Store<'b, 'a, M>,
+    root: Root,
+    a: u32,
+    b: u32,
+    other: Root,
+) -> Root
+    requires { Spliceable store.old root a b other }
+    ensures { Makes store.old store.new result (spliced store.old root a b other) (splice_cost (higher store.old root other) (height_in store.new result)) (higher store.old root other + 2) }
+{
+    let before = front(store, root, a);
+    let behind = back(store, root, b);
+    let tail = join_roots(store, other, behind);
+    join_roots(store, before, tail)
+}
+
+/// The text of the tree `i` with its part `a` to `b` replaced by that at `other`. Where the part lies in one child, only that
+/// child changes, which takes fewer records; but not if `other` is higher than the child, since it would then be higher
+/// than what it is joined with at each level above.
+fn splice_at<'b, 'a, M: Monoid>(
+    store: &mut Store<'b, 'a, M>,
+    i: u32,
+    a: u32,
+    b: u32,
+    other: Root,
+) -> Root
+    requires { Spliceable store.old (Some i) a b other }
+    ensures { Makes store.old store.new result (spliced store.old (Some i) a b other) (splice_cost (higher store.old (Some i) other) (height_in store.new result)) (higher store.old (Some i) other + 2) }
+{
+    if let Shape::Inner { left, right } = store.record(i).shape {
+        let least = root_height(store, other);
+        let split = store.record(left).length;
+        if b <= split && store.record(left).height >= least {
+            let l = splice_at(store, left, a, b, other);
+            return join_roots(store, l, Some(right));
+        }
+        if a >= split && store.record(right).height >= least {
+            let r = splice_at(store, right, a - split, b - split, other);
+            return join_roots(store, Some(left), r);
+        }
+    }
+    replace(store, Some(i), a, b, other)
+}
+
 /// The text at `root` with its part `a` to `b` replaced by that at `other`.
 pub fn splice<'b, 'a, M: Monoid>(
     store: &mut Store<'b, 'a, M>,
@@ -137,8 +193,8 @@ pub fn splice<'b, 'a, M: Monoid>(
     requires free { Free store.old (edit_need (higher store.old root other)) }
     ensures { Makes store.old store.new result (take a (text_in store.old root) ++ (text_in store.old other ++ drop b (text_in store.old root))) (edit_need (higher store.old root other)) (higher store.old root other + 2) }
 {
-    let before = front(store, root, a);
-    let behind = back(store, root, b);
-    let tail = join_roots(store, other, behind);
-    join_roots(store, before, tail)
+    match root {
+        Some(i) => splice_at(store, i, a, b, other),
+        None => other,
+    }
 }
