@@ -108,7 +108,7 @@ fn needs_of_edits() {
                     }
                     for (edit, most) in [
                         (numbered("cut", &[high, 5, 60]), 8 * h + 2),
-                        (numbered("splice", &[high, 5, 60, high]), 14 * h + 7),
+                        (numbered("splice", &[high, 5, 60, high]), 17 * h + 13),
                     ] {
                         let after = free_records(&mut cases, &[&script[..], &edit].concat());
                         let taken = free - after.expect("no edit takes all of its need");

@@ -150,7 +150,7 @@ impl Shelf {
             need: edit_need(higher),
             takes: Span {
                 least: 0,
-                most: 14 * higher.most + 7,
+                most: 17 * higher.most + 13,
             },
             named: if other.height.most <= height.least {
                 vec![d]
