@@ -49,6 +49,14 @@ pub trait Monoid: Copy {
     fn from_row(row: Self::Row) -> Self
         ensures { result ≡ model.value row };
 
+    /// The row of two values joined, from their rows, without a check. Of rows that are no values' nothing is said. A monoid
+    /// may make it in its own way.
+    fn join_rows(left: Self::Row, right: Self::Row) -> Self::Row
+        ensures { (x y : Self) → model.row x ≡ left → model.row y ≡ right → result ≡ model.row (model.joined x y) }
+    {
+        Self::from_row(left).join(Self::from_row(right)).to_row()
+    }
+
     /// The laws that every impl owes.
     ghost lawful: { Lawful model };
 }

@@ -58,6 +58,13 @@ impl<A: Monoid, B: Monoid> Monoid for Pair<A, B> {
             second: B::from_row(row.second),
         }
     }
+
+    fn join_rows(left: Pair<A::Row, B::Row>, right: Pair<A::Row, B::Row>) -> Pair<A::Row, B::Row> {
+        Pair {
+            first: A::join_rows(left.first, right.first),
+            second: B::join_rows(left.second, right.second),
+        }
+    }
 }
 
 impl<A: Group, B: Group> Group for Pair<A, B> {

@@ -1,7 +1,7 @@
 //! Numbers modulo the prime p = 2^31 - 1.
 #![tactic(auto)]
 
-ghost use Rattle.std.specs.Prelude.{◌≡◌, ◌+◌, ◌*◌, ◌%◌, ◌<◌, ◌≤◌, MatchResult};
+ghost use Rattle.std.specs.Prelude.{◌≡◌, ◌+◌, ◌*◌, ◌%◌, ◌/◌, ◌^◌, ◌<◌, ◌≤◌, MatchResult};
 ghost use Rattle.residue.specs.Residue.{prime, dot as row_by_column, minus};
 
 use std::ops::{Mul, Neg};
@@ -74,12 +74,30 @@ pub fn dot(a: Residue, b: Residue, e: Residue, g: Residue) -> Residue
     reduced(a.n as u64 * e.n as u64 + b.n as u64 * g.n as u64)
 }
 
-/// n modulo p.
+/// The row (a, b) times the column (e, g), of any numbers: the sum is cut to 64 bits, and then reduced once. Of numbers
+/// below p it is below 2^63, and nothing is cut off.
+#[tactic(auto, using(crate::proofs::Bounds::dot_fits))]
+pub fn dot_any(a: u32, b: u32, e: u32, g: u32) -> Residue
+    ensures value { result.n ≡ (a * e + b * g) % 2 ^ 64 % prime }
+    ensures low { a < prime → b < prime → e < prime → g < prime → result.n ≡ row_by_column a b e g }
+{
+    reduced((a as u64 * e as u64).wrapping_add(b as u64 * g as u64))
+}
+
+/// A number that is n modulo p: what stands from bit 31 on counts 2^31, which is 1 modulo p.
+fn folded(n: u64) -> u64
+    ensures { result ≡ n % 2 ^ 31 + n / 2 ^ 31 }
+{
+    (n & P as u64) + (n >> 31)
+}
+
+/// n modulo p. Twice folded, n is below 2 * p. No division, so that LLVM makes vectors of several at once.
 fn reduced(n: u64) -> Residue
     ensures { result.n ≡ n % prime }
 {
+    let twice = folded(folded(n)) as u32;
     Residue {
-        n: (n % P as u64) as u32,
+        n: if twice < P { twice } else { twice - P },
     }
 }
 

@@ -3,7 +3,7 @@ use Rattle.std.proofs.Common.{◌≡◌, ℕ, ◌+◌, ◌≤◌, max, true, Lis
 use Rattle.std.proofs.lemmas.List.{map_push, get_or_push}
 use Rattle.monoid.specs.Monoid.{Model, Lawful, fold_of, all_bytes}
 use Rattle.monoid.proofs.Folds.{fold_append}
-use Rattle.rope.specs.Tree.{Tree, leaf, node, text, size, height, all_lawful}
+use Rattle.rope.specs.Tree.{Tree, leaf, text, size, height, all_lawful}
 use Rattle.rope.specs.Arena.{Arena, Sound, Summed, Reads, arena, forest, part, source_text, row_in}
 use Rattle.rope.specs.Memory.{arena_of, tree_of}
 use Rattle.rope.specs.Steps.{shown, Fine, Leafs, Pairs}
@@ -52,15 +52,9 @@ module _ {V R : Type 0} {kind : _} (m : Model V R) (s : Store V R kind) (summed 
   pub pushed_tree : get_or (forest after) s.records.used (leaf []) ≡ shown s r
   pushed_tree = ap (λ (xs : List Tree). get_or xs s.records.used (leaf [])) pushed_forest ∙ get_or_push ts (shown s r) (leaf []) s.records.used (forest_length s)
 
--- the row of two trees in one is the joined rows of both
-row_node : {V R : Type 0} (m : Model V R) (laws : Lawful m) (l r : Tree) → row_in m (node l r) ≡ m.row (m.joined (m.value (row_in m l)) (m.value (row_in m r)))
-row_node m laws l r =
-    ap m.row (fold_append m laws (text l) (text r)
-    ∙ ap (λ x. m.joined x (fold_of m (text r))) (sym (laws.back (fold_of m (text l))))
-    ∙ ap (m.joined (m.value (row_in m l))) (sym (laws.back (fold_of m (text r)))))
-
 pub inner_fine : {V R : Type 0} {kind : _} (m : Model V R) (laws : Lawful m) (s : Store V R kind) (l r : ℕ) (p : Pairs s l r) (x y : Record R) (h : ℕ) (v : R)
-    → Reads m (arena_of s) l x → Reads m (arena_of s) r y → h ≡ max x.height y.height → v ≡ m.row (m.joined (m.value x.row) (m.value y.row))
+    → Reads m (arena_of s) l x → Reads m (arena_of s) r y → h ≡ max x.height y.height
+    → v ≡ m.row (m.joined (fold_of m (text (tree_of s l))) (fold_of m (text (tree_of s r))))
     → Fine m s (record { shape = Inner l r; length = x.length + y.length; height = h + 1; row = v })
 inner_fine m laws s l r p x y h v al ar high row =
     record {
@@ -68,9 +62,7 @@ inner_fine m laws s l r p x y h v al ar high row =
       lawful_tree = lawful_node (tree_of s l) (tree_of s r) (record { left = al.lawful_tree; right = ar.lawful_tree; left_near = p.left_near; right_near = p.right_near });
       long = omega (arith, length-append (text (tree_of s l)) (text (tree_of s r)), al.long, ar.long);
       high = ap (λ n. n + 1) (high ∙ ap (λ n. max n y.height) al.high ∙ ap (max (height (tree_of s l))) ar.high);
-      row = row ∙ ap (λ z. m.row (m.joined (m.value z) (m.value y.row))) al.row
-          ∙ ap (λ z. m.row (m.joined (m.value (row_in m (tree_of s l))) (m.value z))) ar.row
-          ∙ sym (row_node m laws (tree_of s l) (tree_of s r));
+      row = row ∙ ap m.row (sym (fold_append m laws (text (tree_of s l)) (text (tree_of s r))));
     }
 
 pub length_part : {X : Type 0} (xs : List X) (start n : ℕ) → start + n ≤ length xs → length (take n (drop start xs)) ≡ n

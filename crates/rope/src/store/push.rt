@@ -33,7 +33,7 @@ impl<'b, 'a, M: Monoid> Store<'b, 'a, M> {
     {
         let l = self.record(left);
         let r = self.record(right);
-        let row = M::from_row(l.row).join(M::from_row(r.row)).to_row();
+        let row = M::join_rows(l.row, r.row);
         self.push(Record {
             shape: Shape::Inner { left, right },
             length: l.length + r.length,

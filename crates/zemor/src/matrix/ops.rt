@@ -4,7 +4,7 @@ ghost use Rattle.zemor.specs.Laws;
 
 use super::{Entries, Sl2, stretch, table};
 use monoid::{Group, Monoid};
-use residue::{Residue, dot};
+use residue::{Residue, dot, dot_any};
 
 impl Monoid for Sl2 {
     type Row = Entries;
@@ -50,6 +50,16 @@ impl Monoid for Sl2 {
 
     fn from_row(row: Entries) -> Sl2 {
         Sl2::from_entries(row).unwrap_or(Sl2::empty())
+    }
+
+    // Nothing is tested, and each entry is reduced once: of values' rows this is the row of `join`.
+    fn join_rows(left: Entries, right: Entries) -> Entries {
+        Entries {
+            a: dot_any(left.a, left.b, right.a, right.c).get(),
+            b: dot_any(left.a, left.b, right.b, right.d).get(),
+            c: dot_any(left.c, left.d, right.a, right.c).get(),
+            d: dot_any(left.c, left.d, right.b, right.d).get(),
+        }
     }
 }
 

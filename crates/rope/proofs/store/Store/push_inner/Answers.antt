@@ -1,4 +1,6 @@
-use Rattle.std.proofs.Common.{ap, ◌∙◌, arith}
+use Rattle.std.proofs.Common.{sym, arith}
+use Rattle.monoid.specs.Monoid.{fold_of}
+use Rattle.rope.specs.Tree.{text}
 use Rattle.rope.specs.Memory.{tree_of}
 use Rattle.rope.proofs.Heights.{height_small}
 use Rattle.rope.proofs.Pushes.{inner_fine}
@@ -11,9 +13,11 @@ overflow_add-max g c =
     let r = c.record-r.ensures in
     omega (arith, c.max.ensures, l.high, r.high, height_small (tree_of s c.args.left) l.lawful_tree (omega (arith, c.requires.short)), height_small (tree_of s c.args.right) r.lawful_tree (omega (arith, c.requires.short)))
 
+-- each row is that of the fold of its text
 pub push-requires : goal.push-requires
 push-requires g c =
     let m = g.M.Monoid.model in
-    inner_fine m g.met.M.Monoid.lawful c.args.self.now c.args.left c.args.right c.requires
-    c.record-l.result c.record-r.result c.max.result c.to_row-row.result c.record-l.ensures c.record-r.ensures c.max.ensures
-    (c.to_row-row.ensures ∙ ap m.row (rw (c.from_row.ensures, c.from_row-2.ensures) at c.join.ensures))
+    let s = c.args.self.now in
+    inner_fine m g.met.M.Monoid.lawful s c.args.left c.args.right c.requires
+    c.record-l.result c.record-r.result c.max.result c.join_rows-row.result c.record-l.ensures c.record-r.ensures c.max.ensures
+    (c.join_rows-row.ensures (fold_of m (text (tree_of s c.args.left))) (fold_of m (text (tree_of s c.args.right))) (sym c.record-l.ensures.row) (sym c.record-r.ensures.row))
