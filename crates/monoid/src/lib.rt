@@ -49,8 +49,8 @@ pub trait Monoid: Copy {
     fn from_row(row: Self::Row) -> Self
         ensures { result ≡ model.value row };
 
-    /// The row of two values joined, from their rows, without a check. Of rows that are no values' nothing is said. A monoid
-    /// may make it in its own way.
+    /// The row of two values joined, from their rows. Of rows that are no values' nothing is said, so a monoid that makes it
+    /// in its own way need not test them.
     fn join_rows(left: Self::Row, right: Self::Row) -> Self::Row
         ensures { (x y : Self) → model.row x ≡ left → model.row y ≡ right → result ≡ model.row (model.joined x y) }
     {
