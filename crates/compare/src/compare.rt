@@ -1,11 +1,13 @@
 //! Two files compared: what the person who releases a build does by hand.
-ghost use Rattle.std.specs.Prelude.{◌≤◌, length};
+ghost use Rattle.std.specs.Prelude.{◌≤◌};
 
-use crate::change::{Change, Stretch, difference, lines_of};
+use crate::change::{Change, Stretch, difference};
 use crate::files::read;
+use crate::lines::write_lines;
 use crate::memory::memory;
 use crate::told::{MarkedView, place_in, refused, tell};
 use anyhow::Result;
+use std::alloc::Global;
 use std::io::Write;
 use std::rt::Files;
 
@@ -46,11 +48,12 @@ pub fn run<R: Files + AllocGlobal, W: Write>(
         text: &new_text,
         number: second,
     };
-    report(shelf.view(), old, new, out)
+    report(rt.alloc(), shelf.view(), old, new, out)
 }
 
 /// Writes how two documents differ.
 fn report<'v, 't, W: Write>(
+    heap: Global,
     view: MarkedView<'v>,
     old: Document<'t>,
     new: Document<'t>,
@@ -62,8 +65,7 @@ fn report<'v, 't, W: Write>(
         None => Ok(writeln!(out, "equal texts")?),
         Some(change) => {
             write_places(view, old, new, change, out)?;
-            write_lines("< ", old.text, change.old, out)?;
-            write_lines("> ", new.text, change.new, out)?;
+            write_lines(heap, old.text, new.text, change, out)?;
             write_read_back(view, old, new, change, out)
         }
     }
@@ -98,29 +100,6 @@ fn write_places<'v, 't, W: Write>(
         out,
         "and last part before {old_last} of {old}, {new_last} of {new}"
     )?;
-    Ok(())
-}
-
-/// Writes the lines that a part of the text touches, each behind a sign.
-fn write_lines<W: Write>(sign: &str, text: &[u8], part: Stretch, out: &mut W) -> Result<()>
-    requires ordered { part.from ≤ part.to }
-    requires within { part.to ≤ length text.now }
-{
-    let Stretch { from, to } = lines_of(text, part);
-    // behind the last newline of a text stands no line
-    if from == text.len() {
-        return Ok(());
-    }
-    let lines = &text[from..to];
-    let lines = match lines.strip_suffix(b"\n") {
-        Some(front) if to == text.len() => front,
-        _ => lines,
-    };
-    for line in lines.split(|b| *b == b'\n') {
-        out.write_all(sign.as_bytes())?;
-        out.write_all(line)?;
-        out.write_all(b"\n")?;
-    }
     Ok(())
 }
 

@@ -6,6 +6,7 @@ mod command;
 mod compare;
 mod edits;
 mod files;
+mod lines;
 mod memory;
 mod told;
 
