@@ -8,7 +8,7 @@ const FIRST_ROOM: usize = 16 * buffer::MOST_ANSWER;
 /// Calls and answers are netstrings, as docs/SCRIPTS.md says. A call that is refused is answered too, by `-N@P`: the
 /// refusal's number, and the place of the call in the script.
 ///
-/// The shelf has 1,024 records, 16,384 bytes for added text and 64 places for documents. The run takes about 100 KiB of
+/// The shelf has 1,024 records, 16,384 bytes for added text and 64 places for documents. The run takes less than 100 KiB of
 /// stack.
 ///
 /// ```
