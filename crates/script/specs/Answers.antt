@@ -87,12 +87,17 @@ abbrev pub Ran : {V R : Type 0} {kind : _} → List ℕ → ℕ → Shelf V R ki
 Ran script i s old t new (Ok r) = (4102 ≤ length old) × ((a : List ℕ) × (Turn script i s a r.next t × Copied a old (Some r.len) new))
 Ran script i s old t new (Err e) = (length old < 4102) × (e ≡ SmallBuffer) × (t ≡ s) × (new ≡ old)
 
--- what `run_into` does: turns up to the script's end, or until fewer than 4,102 bytes are left; all their answers stand at
--- the buffer's start, with their length. It refuses as `run` does.
+-- turns that each began with 4,102 bytes left of n: the last one did, and those before it had more
+pub data TurnsIn {V R : Type 0} {kind : _} (n : ℕ) (script : List ℕ) (i : ℕ) (s : Shelf V R kind) : List ℕ → ℕ → Shelf V R kind → Type 0 where
+  none : TurnsIn n script i s [] i s
+  last : {a before : List ℕ} {j k : ℕ} {t u : Shelf V R kind} → Turns script i s before j t → j < length script → length before + 4102 ≤ n → Turn script j t a k u → TurnsIn n script i s (before ++ a) k u
+
+-- what `run_into` does: turns up to the script's end, or until fewer than 4,102 bytes are left, and none beyond; all their
+-- answers stand at the buffer's start, with their length. It refuses as `run` does.
 abbrev pub RanInto : {V R : Type 0} {kind : _} → List ℕ → ℕ → Shelf V R kind → List ℕ → Shelf V R kind → List ℕ → Result Answered Refusal → Type 0
 RanInto script i s old t new (Ok r) =
     (4102 ≤ length old) × ((length script ≤ r.next) ⊎ (length old < r.len + 4102))
-    × ((all : List ℕ) × (Turns script i s all r.next t × Copied all old (Some r.len) new))
+    × ((all : List ℕ) × (TurnsIn (length old) script i s all r.next t × Copied all old (Some r.len) new))
 RanInto script i s old t new (Err e) = (length old < 4102) × (e ≡ SmallBuffer) × (t ≡ s) × (new ≡ old)
 
 -- what `run_all` does, for a writer that held the bytes `old` and holds the bytes `new`, where it tells them: turns up to

@@ -9,7 +9,7 @@ use Rattle.shelf_view.specs.declared.refusal.Refusal.{Refusal}
 use Rattle.shelf_view.specs.declared.refusal.Refusal.TheVariants.{BadPart, TooLong, SmallBuffer}
 use Rattle.text_shelf.specs.Shelves.{parts, Fresh}
 use Rattle.text_shelf.specs.declared.shelf.Shelf.{Shelf}
-use Rattle.script.specs.Answers.{Turns}
+use Rattle.script.specs.Answers.{TurnsIn}
 use Rattle.script.specs.declared.run.Answered.{Answered}
 use Rattle.vault.specs.declared.answer.VaultAnswer.{VaultAnswer}
 use Rattle.vault.specs.declared.answer.VaultRun.{VaultRun}
@@ -59,14 +59,14 @@ pub record Starts {V R : Type 0} {kind : _} (s : Shelf V R kind) : Type 0 where
   pub free_records : length records ≡ 1024
   pub free_places : length places ≡ 64
 
--- turns on such a shelf up to the script's end, or until fewer than 4,102 bytes are left; all their answers stand at the
+-- turns on such a shelf up to the script's end, or until fewer than 4,102 bytes are left, and none beyond; all their answers stand at the
 -- buffer's start, with their length and the place behind the last call, and what lies behind keeps its bytes
 pub record Ran (script old new : List ℕ) (r : Answered) : Type 0 where
   pub fresh : Desk
   pub left : Desk
   pub answers : List ℕ
   pub starts : Starts fresh.shelf
-  pub turns : Turns script 0 fresh.shelf answers r.next left.shelf
+  pub turns : TurnsIn (length old) script 0 fresh.shelf answers r.next left.shelf
   pub ends : (length script ≤ r.next) ⊎ (length old < r.len + 4102)
   pub written : Copied answers old (Some r.len) new
 
