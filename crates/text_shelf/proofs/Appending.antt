@@ -15,8 +15,8 @@ use Rattle.shelf_view.specs.State.{State, text_at}
 use Rattle.shelf_view.proofs.Firsts.{first_none}
 use Rattle.rope.specs.Held.{held, Gains}
 use Rattle.text_shelf.specs.Shelves.{Parts, parts, Brought, brought, Told, told, strings}
-use Rattle.text_shelf.specs.Calls.{appended, spliced, accepted, answer, need, DraftHeight, reason, reasons, numbers_spent}
-use Rattle.text_shelf.specs.Steps.{Changed, Steps, brings}
+use Rattle.text_shelf.specs.Calls.{appended, spliced, accepted, answer, need, brings, DraftHeight, reason, reasons, numbers_spent}
+use Rattle.text_shelf.specs.Steps.{Changed, Steps}
 use Rattle.text_shelf.specs.declared.call.Call.{Call}
 use Rattle.text_shelf.specs.declared.call.Call.TheVariants.{Put, Take, Cut, Splice}
 use Rattle.text_shelf.specs.declared.call.Answer.TheVariants.{Made}

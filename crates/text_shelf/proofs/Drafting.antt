@@ -1,5 +1,5 @@
 -- Drafts: started, lengthened and sealed.
-use Rattle.std.proofs.Common.{◌≡◌, ℕ, ◌+◌, ◌<◌, ◌≤◌, true, false, ◌||◌, ltb, leb, List, [], ◌∷◌, ◌++◌, length, get_or, is_some, Some, None, Option, Ok, sym, refl, ap, ◌∙◌, subst, append-nil, arith, length-append, Bor}
+use Rattle.std.proofs.Common.{◌≡◌, ℕ, ◌+◌, ◌<◌, ◌≤◌, max, true, false, ◌||◌, ltb, leb, List, [], ◌∷◌, ◌++◌, length, get_or, is_some, Some, None, Option, Ok, sym, refl, ap, ◌∙◌, subst, append-nil, arith, length-append, Bor}
 use Rattle.std.proofs.lemmas.Bool.{ltb-false, or_parts, lt-leb}
 use Rattle.std.specs.Option.{option_map}
 use Rattle.monoid.specs.Monoid.{Model}
@@ -19,7 +19,7 @@ use Rattle.shelf_view.specs.declared.draft_id.DraftId.{DraftId}
 use Rattle.shelf_view.proofs.Firsts.{first_none, first_not}
 use Rattle.rope.specs.Held.{held, Gains}
 use Rattle.text_shelf.specs.Shelves.{Parts, parts, shelved, brought, told, strings}
-use Rattle.text_shelf.specs.Calls.{with_draft, accepted, need, reason, reasons}
+use Rattle.text_shelf.specs.Calls.{with_draft, accepted, need, DraftHeight, reason, reasons}
 use Rattle.text_shelf.specs.Steps.{Changed, Steps}
 use Rattle.text_shelf.specs.declared.call.Call.TheVariants.{Open, Add, Seal}
 use Rattle.text_shelf.specs.declared.call.Answer.TheVariants.{Made, Opened, Done}
@@ -51,7 +51,8 @@ open_step s t none is =
 module _ {V R : Type 0} {kind : _} (m : Model V R) (s : Shelf V R kind) (d : DraftId) (text : Bor (List ℕ)) (p root : Root) (store : Store V R kind)
     (none : reason (brought (parts s)) (told (parts s)) (strings (parts s)) (Add d text) ≡ None) (drafts : Drafts m (shelved (parts s)) p)
     (g : Grows s.store store text.now (add_need (height_in s.store p) (length text.now)))
-    (r : rooted store.records.used root ≡ true) (is : text_in store root ≡ text_in s.store p ++ text.now) where
+    (r : rooted store.records.used root ≡ true) (is : text_in store root ≡ text_in s.store p ++ text.now)
+    (up : (height_in s.store p ≤ height_in store root) × (height_in store root ≤ max (height_in s.store p) 6 + 1)) where
   abbrev pub longer_draft : Parts V R kind
   longer_draft = record { store = store; places = s.places; draft = Some root; mark = s.mark; opened = s.opened }
 
@@ -87,7 +88,16 @@ module _ {V R : Type 0} {kind : _} (m : Model V R) (s : Shelf V R kind) (d : Dra
         places = fills_none s.places.used s.places.memory.now;
         heights = λ k h. ap (λ hs. get_or (0 ∷ hs) k 0) (heights_stay s.store store g.keeps (held s.places) s.documents);
       } in
-      rw none (refl, ap strings same ∙ after, (subst (λ q. Changed (parts s) q text.now (need (told (parts s)) (Add d text))) (sym same) changed, tt))
+      let higher : DraftHeight (Add d text) (told (parts s)).draft (height_in store root) =
+      subst (λ h. DraftHeight (Add d text) h (height_in store root)) high up in
+      rw none (
+        refl,
+        ap strings same ∙ after,
+        (
+          subst (λ q. Changed (parts s) q text.now (need (told (parts s)) (Add d text))) (sym same) changed,
+          subst (λ q. DraftHeight (Add d text) (told (parts s)).draft (told q).draft) (sym same) higher,
+        ),
+      )
 
 module _ {V R : Type 0} {kind : _} (m : Model V R) (s : Shelf V R kind) (d : DraftId) (p : Root) (places : Lent Root MOST_PLACES)
     (none : reason (brought (parts s)) (told (parts s)) (strings (parts s)) (Seal d) ≡ None) (drafts : Drafts m (shelved (parts s)) p)

@@ -1,15 +1,16 @@
 -- The calls that change a shelf: what each makes of the list of strings, what it needs, what becomes of the draft's height,
 -- and why it is refused.
-use Rattle.std.specs.Prelude.{◌≡◌, ℕ, ◌+◌, ◌-◌, max, Bool, true, false, ◌||◌, List, [], ◌∷◌, ◌++◌, length, take, drop, is_some, Some, None, Option, nat_le, nat_lt, slice_index}
+use Rattle.std.specs.Prelude.{◌≡◌, ℕ, ◌+◌, ◌-◌, ◌≤◌, max, Bool, ◌||◌, List, [], ◌∷◌, ◌++◌, length, take, drop, is_some, Some, None, Option, nat_le, nat_lt, slice_index}
 use Rattle.std.specs.List.{between}
 use Rattle.rope_cut.specs.Parts.{edit_need}
 use Rattle.rope_keep.specs.Kept.{need_of_text, add_need}
 use Rattle.shelf_view.specs.Documents.{most}
-use Rattle.shelf_view.specs.Refusals.{Reasons, first}
+use Rattle.shelf_view.specs.Refusals.{Reasons}
 use Rattle.shelf_view.specs.State.{State, unknown, text_at, bad_part, strange, draft_text}
 use Rattle.shelf_view.specs.declared.refusal.Refusal.{Refusal}
 use Rattle.shelf_view.specs.declared.refusal.Refusal.TheVariants.{StrangeDraft, DraftOpen, NoDocument, BadPart, TooLong, TextFull, RecordsShort, NumbersSpent}
 use Rattle.text_shelf.specs.Shelves.{Brought, Told}
+use Rattle.text_shelf.specs.Rules.{Rules, refusal}
 use Rattle.text_shelf.specs.declared.call.Call.{Call}
 use Rattle.text_shelf.specs.declared.call.Call.TheVariants.{Put, Take, Cut, Splice, Open, Add, Seal, GiveUp}
 use Rattle.text_shelf.specs.declared.call.Answer.{Answer}
@@ -40,11 +41,6 @@ accepted build (Add d text) s =
 accepted build (Seal d) s = with_draft (appended s (draft_text s) 0) None
 accepted build (GiveUp d) s = with_draft s None
 
--- one step: a refused call leaves the state as it is
-abbrev pub next : List ℕ → Call → Bool → State → State
-next build call true s = accepted build call s
-next build call false s = s
-
 -- what an accepted call answers: the number of the text that it appends, or the draft that it starts
 abbrev pub answer : ℕ → State → Call → Answer
 answer mark s (Put text) = Made (length s.texts)
@@ -70,17 +66,31 @@ need t (Add d text) = add_need t.draft (length text.now)
 need t (Seal d) = 0
 need t (GiveUp d) = 0
 
+-- TEXT BROUGHT
+
+-- the text that a call brings, which is written behind the added text
+abbrev pub brings : Call → List ℕ
+brings (Put text) = text.now
+brings (Take a b) = []
+brings (Cut d a b) = []
+brings (Splice d a b e) = []
+brings Open = []
+brings (Add d text) = text.now
+brings (Seal d) = []
+brings (GiveUp d) = []
+
 -- HEIGHTS
 
 -- how high the open draft is told before and after a call: a call that is about no draft leaves that; a draft that was
--- just opened is not high, and where one has ended there is none; what add makes of it, its tree tells
+-- just opened is not high, and where one has ended there is none. Add joins a text of at most 4,096 bytes, which is at
+-- most 6 high, and two texts joined are as high as the higher of them or one higher.
 abbrev pub DraftHeight : Call → ℕ → ℕ → Type 0
 DraftHeight (Put text) h k = k ≡ h
 DraftHeight (Take a b) h k = k ≡ h
 DraftHeight (Cut d a b) h k = k ≡ h
 DraftHeight (Splice d a b e) h k = k ≡ h
 DraftHeight Open h k = k ≡ 0
-DraftHeight (Add d text) h k = Unit {0}
+DraftHeight (Add d text) h k = (h ≤ k) × (k ≤ max h 6 + 1)
 DraftHeight (Seal d) h k = k ≡ 0
 DraftHeight (GiveUp d) h k = k ≡ 0
 
@@ -135,6 +145,10 @@ reasons b t s (Add d text) =
 reasons b t s (Seal d) = (strange s b.mark d, StrangeDraft) ∷ (numbers_spent b s, NumbersSpent) ∷ []
 reasons b t s (GiveUp d) = (strange s b.mark d, StrangeDraft) ∷ []
 
+-- the rules of the calls of every shelf
+abbrev pub every_shelf : Rules Call
+every_shelf = record { reasons = reasons; accepted = accepted; answer = answer; need = need; brings = brings; draft_height = DraftHeight }
+
 -- the refusal that a call answers, or none
 abbrev pub reason : Brought → Told → State → Call → Option Refusal
-reason b t s call = first (reasons b t s call)
+reason b t s call = refusal every_shelf b t s call

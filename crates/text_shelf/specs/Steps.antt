@@ -1,28 +1,16 @@
 -- What a call does to a shelf.
-use Rattle.std.specs.Prelude.{◌≡◌, ℕ, ◌+◌, ◌<◌, ◌≤◌, List, [], ◌++◌, length, Some, None, Ok, Err, Option, Result, slice_index}
+use Rattle.std.specs.Prelude.{◌≡◌, ℕ, ◌+◌, ◌<◌, ◌≤◌, List, ◌++◌, length, Some, None, Ok, Err, Option, Result, slice_index}
 use Rattle.std.specs.Result.{result_map_both}
 use Rattle.rope.specs.Lents.{Fills}
 use Rattle.shelf_view.specs.declared.refusal.Refusal.{Refusal}
 use Rattle.text_shelf.specs.Shelves.{Parts, parts, shelved, brought, told, strings}
-use Rattle.text_shelf.specs.Calls.{accepted, answer, need, DraftHeight}
-use Rattle.text_shelf.specs.Whys.{why}
+use Rattle.text_shelf.specs.Rules.{Rules, refusal}
+use Rattle.text_shelf.specs.Calls.{every_shelf}
 use Rattle.text_shelf.specs.declared.call.Call.{Call}
-use Rattle.text_shelf.specs.declared.call.Call.TheVariants.{Put, Take, Cut, Splice, Open, Add, Seal, GiveUp}
 use Rattle.text_shelf.specs.declared.call.Answer.{Answer}
 use Rattle.text_shelf.specs.declared.call.Answer.TheVariants.{Made, Opened, Done}
 use Rattle.text_shelf.specs.declared.draft.Draft.{Draft}
 use Rattle.text_shelf.specs.declared.shelf.Shelf.{Shelf}
-
--- the text that a call brings, which is written behind the added text
-abbrev pub brings : Call → List ℕ
-brings (Put text) = text.now
-brings (Take a b) = []
-brings (Cut d a b) = []
-brings (Splice d a b e) = []
-brings Open = []
-brings (Add d text) = text.now
-brings (Seal d) = []
-brings (GiveUp d) = []
 
 -- what is brought, used and told after a change from s to t that may take n records and writes bs behind the added text
 pub record Changed {V R : Type 0} {kind : _} (s t : Parts V R kind) (bs : List ℕ) (n : ℕ) : Type 0 where
@@ -38,16 +26,21 @@ pub record Changed {V R : Type 0} {kind : _} (s t : Parts V R kind) (bs : List �
 
 -- what a call does, by the reason to refuse it: it answers that refusal, and the whole shelf with all its memory is as
 -- it was; or, where there is none, it answers and leaves what the list of strings says
-abbrev pub Stepped : {V R : Type 0} {kind : _} → Option Refusal → Shelf V R kind → Call → Result Answer Refusal → Shelf V R kind → Type 0
-Stepped (Some e) s call a t = (a ≡ Err e) × (t ≡ s)
-Stepped None s call a t =
-    (a ≡ Ok (answer s.mark (strings (parts s)) call))
-    × (strings (parts t) ≡ accepted s.store.build.now call (strings (parts s)))
-    × (Changed (parts s) (parts t) (brings call) (need (told (parts s)) call)
-    × DraftHeight call (told (parts s)).draft (told (parts t)).draft)
+abbrev pub Stepped : {C : Type 0} → Rules C → {V R : Type 0} {kind : _} → Option Refusal → Shelf V R kind → C → Result Answer Refusal → Shelf V R kind → Type 0
+Stepped r (Some e) s call a t = (a ≡ Err e) × (t ≡ s)
+Stepped r None s call a t =
+    (a ≡ Ok (r.answer s.mark (strings (parts s)) call))
+    × (strings (parts t) ≡ r.accepted s.store.build.now call (strings (parts s)))
+    × (Changed (parts s) (parts t) (r.brings call) (r.need (told (parts s)) call)
+    × r.draft_height call (told (parts s)).draft (told (parts t)).draft)
 
+-- what a call of an alphabet does to the shelf s, which it leaves as t
+abbrev pub StepsBy : {C : Type 0} → Rules C → {V R : Type 0} {kind : _} → Shelf V R kind → C → Result Answer Refusal → Shelf V R kind → Type 0
+StepsBy r s call a t = Stepped r (refusal r (brought (parts s)) (told (parts s)) (strings (parts s)) call) s call a t
+
+-- and a call of every shelf
 abbrev pub Steps : {V R : Type 0} {kind : _} → Shelf V R kind → Call → Result Answer Refusal → Shelf V R kind → Type 0
-Steps s call a t = Stepped (why s call) s call a t
+Steps s call a t = StepsBy every_shelf s call a t
 
 -- what the public calls answer, as answers of a call
 abbrev pub made : Result ℕ Refusal → Result Answer Refusal

@@ -3,4 +3,5 @@
 
 pub mod call;
 pub mod draft;
+pub mod replay;
 pub mod shelf;

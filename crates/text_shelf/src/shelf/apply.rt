@@ -1,5 +1,6 @@
-ghost use Rattle.std.specs.Prelude.{◌≡◌};
+ghost use Rattle.std.specs.Prelude.{◌≡◌, ◌↔◌, IsTrue};
 ghost use Rattle.text_shelf.specs.Steps.{Steps};
+ghost use Rattle.text_shelf.specs.Reaches.{token};
 ghost use Rattle.text_shelf.specs.declared.call.Call.TheVariants.{Add, Seal, GiveUp};
 
 use super::Shelf;
@@ -43,11 +44,11 @@ impl<'b, 'a, M: Monoid> Shelf<'b, 'a, M> {
             .map_err(refused)
     }
 
-    /// Runs one call, through the method of its name. A call about a draft names it by any mark and count.
-    pub fn apply<'t>(&mut self, call: &Call<'t>) -> Result<Answer, Refusal>
+    /// Runs one call, through the method of its name. A call about a draft names it by any mark and count, so whoever runs it
+    /// answers for the token.
+    pub(crate) fn apply<'t>(&mut self, call: &Call<'t>) -> Result<Answer, Refusal>
         ensures { Steps self.old call.now result self.new }
     {
-        // a match, and no table of closures: each kind of call has its own arguments
         match call {
             Call::Put(text) => self.put(text).map(Answer::Made),
             Call::Take { from, to } => self.take(*from, *to).map(Answer::Made),
@@ -62,6 +63,34 @@ impl<'b, 'a, M: Monoid> Shelf<'b, 'a, M> {
             Call::Add { draft, text } => self.apply_add(*draft, text),
             Call::Seal(draft) => self.apply_seal(*draft),
             Call::GiveUp(draft) => self.apply_give_up(*draft),
+        }
+    }
+
+    /// Whether this is the token of the shelf's open draft, or none where none is open.
+    pub(crate) fn is_token(&self, draft: &Option<Draft>) -> bool
+        ensures { IsTrue result ↔ (draft.now ≡ token self.now) }
+    {
+        match (draft, self.draft) {
+            (None, None) => true,
+            (Some(draft), Some(_)) => {
+                draft.id.mark == self.mark && draft.id.count == self.opened
+            }
+            _ => false,
+        }
+    }
+
+    /// The token of the shelf's open draft, where nobody else has it.
+    pub(crate) fn token(&self) -> Option<Draft>
+        ensures { result ≡ token self.now }
+    {
+        match self.draft {
+            None => None,
+            Some(_) => Some(Draft {
+                id: DraftId {
+                    mark: self.mark,
+                    count: self.opened,
+                },
+            }),
         }
     }
 }

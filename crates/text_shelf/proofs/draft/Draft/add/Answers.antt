@@ -8,11 +8,11 @@ invariant_of-shelf g c =
     let draft = c.in_ok-root.ensures in
     let made = c.lengthen.ensures in
     ghosts (firm_longer g.M.Monoid.model c.args.shelf.now c.args.self.now.id c.args.text c.in_ok-root.root c.lengthen.result c.lengthen.new.store
-    draft.0 draft.1 made.grows made.root made.text)
+    draft.0 draft.1 made.grows made.root made.text made.high)
 
 pub returns : goal.returns
 returns g c =
     let draft = c.in_ok-root.ensures in
     let made = c.lengthen.ensures in
     add_step g.M.Monoid.model c.args.shelf.now c.args.self.now.id c.args.text c.in_ok-root.root c.lengthen.result c.lengthen.new.store
-    draft.0 draft.1 made.grows made.root made.text _ refl
+    draft.0 draft.1 made.grows made.root made.text made.high _ refl

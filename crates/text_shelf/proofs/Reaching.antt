@@ -1,0 +1,66 @@
+-- Shelves that calls have reached.
+use Rattle.std.proofs.Common.{◌≡◌, ℕ, ◌+◌, ◌<◌, List, [], ◌∷◌, ◌++◌, length, get_or, take, set, Some, None, Option, Result, refl, sym, ap, ◌∙◌, subst, append-nil}
+use Rattle.std.proofs.lemmas.List.{take_more, take_more_set, append_assoc}
+use Rattle.rope.specs.Arena.{Root}
+use Rattle.rope.specs.Lents.{Fills}
+use Rattle.rope.proofs.Keeping.{fills_none, fills_trans}
+use Rattle.rope.specs.declared.record.Record.{Record}
+use Rattle.shelf_view.specs.declared.refusal.Refusal.{Refusal}
+use Rattle.text_shelf.specs.Rules.{Rules}
+use Rattle.text_shelf.specs.Shelves.{Parts, Fresh, parts}
+use Rattle.text_shelf.specs.Steps.{Stepped, StepsBy}
+use Rattle.text_shelf.specs.Reaches.{Reached, fresh, called, used_of, Untouched, More, Spares}
+use Rattle.text_shelf.specs.declared.call.Answer.{Answer}
+use Rattle.text_shelf.specs.declared.shelf.Shelf.{Shelf}
+
+-- calls that are run on a fresh shelf
+module _ {V R : Type 0} {kind : _} (s : Shelf V R kind) (build added : List ℕ) (records : List (Record R)) (places : List Root) (mark : ℕ)
+    (f : Fresh (parts s) build added records places mark) where
+  pub fresh_more : {C : Type 0} (r : Rules C) (calls : List C) (answers : List (Result Answer Refusal)) (t : Shelf V R kind) → More r s calls answers t
+      → Reached r (used_of build added records places mark) calls answers t
+  fresh_more r calls answers t more = more _ [] [] (fresh f refl)
+
+  pub fresh_untouched : (t : Parts V R kind) → Spares (parts s) t → Untouched t added records places
+  fresh_untouched t p = record {
+    added_memory =
+        subst (λ z. Fills 0 t.store.added.used z t.store.added.memory.now) f.added_memory
+        (subst (λ n. Fills n t.store.added.used s.store.added.memory.now t.store.added.memory.now) f.added_used p.added);
+    records_memory =
+        subst (λ z. Fills 0 t.store.records.used z t.store.records.memory.now) f.records_memory
+        (subst (λ n. Fills n t.store.records.used s.store.records.memory.now t.store.records.memory.now) f.used p.records);
+    places_memory =
+        subst (λ z. Fills 0 t.places.used z t.places.memory.now) f.places_memory
+        (subst (λ n. Fills n t.places.used s.places.memory.now t.places.memory.now) f.count p.places);
+  }
+
+pub spares_none : {V R : Type 0} {kind : _} (s : Parts V R kind) → Spares s s
+spares_none s = record {
+  added = fills_none s.store.added.used s.store.added.memory.now;
+  records = fills_none s.store.records.used s.store.records.memory.now;
+  places = fills_none s.places.used s.places.memory.now;
+}
+
+pub more_none : {C : Type 0} (r : Rules C) {V R : Type 0} {kind : _} (s : Shelf V R kind) → More r s [] [] s
+more_none r s b cs xs h = subst (λ z. Reached r b z (xs ++ []) s) (sym (append-nil cs)) (subst (λ z. Reached r b cs z s) (sym (append-nil xs)) h)
+
+module _ {C : Type 0} (r : Rules C) {V R : Type 0} {kind : _} (o : Parts V R kind) (s t : Shelf V R kind) (c : C) (a : Result Answer Refusal) where
+  pub spares_step : (w : Option Refusal) → Stepped r w s c a t → Spares o (parts s) → Spares o (parts t)
+  spares_step (Some e) step u = subst (λ z. Spares o (parts z)) (sym step.1) u
+  spares_step None step u =
+      let k = step.2.0 in
+      record {
+        added = fills_trans u.added k.added;
+        records = fills_trans u.records k.records;
+        places = fills_trans u.places k.places;
+      }
+
+-- the call at place i, whose answer is written there
+pub more_next : {C : Type 0} (r : Rules C) {V R : Type 0} {kind : _} (calls : List C) (xs : List (Result Answer Refusal)) (i : ℕ) (d : C) (a : Result Answer Refusal) (s t u : Shelf V R kind)
+    → i < length calls → i < length xs → More r s (take i calls) (take i xs) t → StepsBy r t (get_or calls i d) a u → More r s (take (i + 1) calls) (take (i + 1) (set xs i a)) u
+more_next r calls xs i d a s t u h k more step b cs ys g =
+    let c = get_or calls i d in
+    let one = called (more b cs ys g) c a step in
+    subst (λ z. Reached r b (cs ++ z) (ys ++ take (i + 1) (set xs i a)) u) (sym (take_more calls i d h))
+    (subst (λ z. Reached r b (cs ++ (take i calls ++ (c ∷ []))) (ys ++ z) u) (sym (take_more_set xs i a k))
+    (subst (λ z. Reached r b z (ys ++ (take i xs ++ (a ∷ []))) u) (append_assoc cs (take i calls) (c ∷ []))
+    (subst (λ z. Reached r b ((cs ++ take i calls) ++ (c ∷ [])) z u) (append_assoc ys (take i xs) (a ∷ [])) one)))
