@@ -1,3 +1,4 @@
+pub mod Hands
 pub mod Keeping
 pub mod Running
 pub mod Telling

@@ -1,8 +1,11 @@
 -- What is told of documents and parts of a reached shelf.
-use Rattle.std.proofs.Common.{◌≡◌, ℕ, zero, suc, ◌<◌, true, false, List, [], ◌∷◌, length, get_or, Some, None, Ok, Err, Result, sym, refl, ap, ◌∙◌, subst, arith}
+use Rattle.std.proofs.Common.{rules, ◌≡◌, ℕ, zero, suc, ◌<◌, true, false, List, [], ◌∷◌, length, get_or, Some, None, Ok, Err, Result, sym, refl, ap, ◌∙◌, subst, arith}
 use Rattle.std.proofs.lemmas.List.{get_or-map, length-map}
 use Rattle.std.proofs.lemmas.Bool.Decides.{nat_tests}
-use Rattle.monoid.specs.Monoid.{Model, fold_of, all_bytes}
+use Rattle.monoid.specs.Monoid.{Model, Lawful, fold_of, all_bytes}
+use Rattle.monoid.specs.Pair.{pair_model}
+use Rattle.monoid.specs.LineColumnLaws.{lawful as line_column_lawful}
+use Rattle.zemor.specs.Laws.{lawful as sl2_lawful}
 use Rattle.monoid.specs.LineColumnValues.{line_column_model}
 use Rattle.monoid.specs.declared.line_column.LineColumn.{LineColumn}
 use Rattle.monoid.specs.declared.pair.Pair.{Pair}
@@ -22,12 +25,20 @@ use Rattle.shelf_view.proofs.Firsts.{first_or, first_stays, first_then, passed}
 use Rattle.shelf_view.proofs.Marking.{root_bytes}
 use Rattle.shelf_view.proofs.Placing.{fine_at}
 use Rattle.text_shelf.specs.Shelves.{Brought, parts, shelved}
-use Rattle.text_shelf.specs.declared.call.Call.{Call}
+use Rattle.text_shelf.specs.Rules.{Rules}
+use Rattle.text_shelf.specs.Reaches.{Reached}
 use Rattle.text_shelf.specs.declared.call.Answer.{Answer}
 use Rattle.text_shelf.specs.declared.shelf.Shelf.{Shelf}
-use Rattle.shelf_promise.specs.Runs.{after, nothing}
-use Rattle.shelf_promise.specs.Replays.{After}
+use Rattle.shelf_promise.specs.Lists.{after, nothing}
+use Rattle.shelf_promise.proofs.Running.{goings}
 use Rattle.shelf_promise.specs.Promises.{DocumentFolds, SlipsTold}
+
+pair_lawful : {A B R S : Type 0} (m : Model A R) (n : Model B S) → Lawful m → Lawful n → Lawful (pair_model m n)
+pair_lawful m n l k = search rules
+
+-- the laws of the pair that marked shelves keep
+pub marked_lawful : Lawful marked
+marked_lawful = pair_lawful sl2 line_column_model sl2_lawful line_column_lawful
 
 -- what the view ensures of a document's summary
 abbrev pub DocumentTold : {V R : Type 0} → Model V R → ℕ → Result V Refusal → Shelved R → Type 0
@@ -45,11 +56,11 @@ document_bytes s w all (suc i) h =
     ap all_bytes (get_or-map (text_of s.arena) s.roots i None [] below)
     ∙ root_bytes s.arena (get_or s.roots i None) w (fine_at s.arena s.roots i None all below)
 
-pub reached_bytes : {V R : Type 0} {kind : _} (m : Model V R) (b : Brought) (calls : List Call) (answers : List (Result Answer Refusal)) (s : Shelf V R kind) (d : ℕ) → After m b calls answers s
-    → of_document (after b.build nothing calls answers) d ≡ None → all_bytes (text_at (after b.build nothing calls answers) d) ≡ true
-reached_bytes m b calls answers s d w h =
-    subst (λ t. unknown t d ≡ false → all_bytes (text_at t d) ≡ true) w.state
-    (document_bytes (shelved (parts s)) s.store.sound s.documents d) (passed (unknown (after b.build nothing calls answers) d) NoDocument [] h).0
+pub reached_bytes : {C : Type 0} {r : Rules C} {V R : Type 0} {kind : _} {b : Brought} {calls : List C} {answers : List (Result Answer Refusal)} (s : Shelf V R kind) (d : ℕ) → Reached r b calls answers s
+    → of_document (after r b.build nothing calls answers) d ≡ None → all_bytes (text_at (after r b.build nothing calls answers) d) ≡ true
+reached_bytes {r = r} {b = b} {calls = calls} {answers = answers} s d h none =
+    subst (λ t. unknown t d ≡ false → all_bytes (text_at t d) ≡ true) (goings h).state
+    (document_bytes (shelved (parts s)) s.store.sound s.documents d) (passed (unknown (after r b.build nothing calls answers) d) NoDocument [] none).0
 
 module _ (s t : State) (d e : ℕ) where
   pub refuses_one : (x : Refusal) → of_document s d ≡ Some x → SlipsTold d e (Err x) s t

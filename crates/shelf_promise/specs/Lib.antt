@@ -1,3 +1,3 @@
-pub mod Runs
-pub mod Replays
+pub mod Lists
 pub mod Promises
+pub mod Hands

@@ -1,25 +1,37 @@
--- What is told of a shelf that was reached from a fresh one by any list of calls, over any memory and mark.
+-- What is told of shelves that were reached from fresh ones by any lists of calls, over any memory and mark.
 use Rattle.std.specs.Prelude.{◌≡◌, ℕ, ◌||◌, List, [], ◌∷◌, length, Result}
 use Rattle.std.specs.List.{between}
 use Rattle.monoid.specs.Monoid.{Model, fold_of}
+use Rattle.monoid.specs.declared.line_column.LineColumn.{LineColumn}
+use Rattle.monoid.specs.declared.pair.Pair.{Pair}
 use Rattle.zemor.specs.Slips.{Slip, Exactly}
+use Rattle.zemor.specs.declared.matrix.Entries.{Entries}
 use Rattle.zemor.specs.declared.matrix.Sl2.{Sl2}
-use Rattle.shelf_view.specs.Marked.{fingerprint, in_part, ReadsBack}
+use Rattle.shelf_view.specs.Marked.{marked, fingerprint, in_part, ReadsBack}
 use Rattle.shelf_view.specs.Questions.{of_document, of_part, of_copy}
 use Rattle.shelf_view.specs.Refusals.{Answers, first}
 use Rattle.shelf_view.specs.State.{State, unknown, text_at}
 use Rattle.shelf_view.specs.declared.refusal.Refusal.{Refusal}
 use Rattle.shelf_view.specs.declared.refusal.Refusal.TheVariants.{NoDocument}
 use Rattle.text_shelf.specs.Shelves.{Brought}
-use Rattle.text_shelf.specs.declared.call.Call.{Call}
+use Rattle.text_shelf.specs.Rules.{Rules}
+use Rattle.text_shelf.specs.Calls.{every_shelf}
+use Rattle.text_shelf.specs.Reaches.{Reached}
 use Rattle.text_shelf.specs.declared.call.Answer.{Answer}
 use Rattle.text_shelf.specs.declared.shelf.Shelf.{Shelf}
-use Rattle.shelf_promise.specs.Runs.{after, nothing}
-use Rattle.shelf_promise.specs.Replays.{After}
+use Rattle.shelf_promise.specs.Lists.{after, nothing, Kept}
+use Rattle.shelf_promise.specs.declared.promise.Asked.{Asked}
+use Rattle.shelf_promise.specs.declared.promise.Told.{Told}
 
--- P holds of what the list of strings makes of any list of calls that the shelf was reached by
-abbrev pub Reached : {V R : Type 0} {kind : _} → Model V R → Shelf V R kind → (State → Type 0) → Type 0
-Reached m shelf P = (b : Brought) (calls : List Call) (answers : List (Result Answer Refusal)) → After m b calls answers shelf → P (after b.build nothing calls answers)
+-- P holds of what the list of strings makes of any list of calls by which the shelf was reached
+abbrev pub Tells : {C : Type 0} → Rules C → {V R : Type 0} {kind : _} → Shelf V R kind → (State → Type 0) → Type 0
+Tells {C} r shelf P =
+    (b : Brought) (calls : List C) (answers : List (Result Answer Refusal)) → Reached r b calls answers shelf → P (after r b.build nothing calls answers)
+
+-- and all that is promised of that list
+abbrev pub Keeps : {C : Type 0} → Rules C → {V R : Type 0} {kind : _} → Model V R → Shelf V R kind → (State → Type 0) → Type 0
+Keeps {C} r m shelf P =
+    (b : Brought) (calls : List C) (answers : List (Result Answer Refusal)) (h : Reached r b calls answers shelf) → Kept m h × P (after r b.build nothing calls answers)
 
 -- the summary told of a document is the fold of its bytes
 abbrev pub DocumentFolds : {V R : Type 0} → Model V R → ℕ → Result V Refusal → State → Type 0
@@ -41,3 +53,17 @@ SlipsTold d e r s t =
 -- read-back answers the one window that gives the fingerprint, or refuses where none does
 abbrev pub WindowTold : ℕ → ℕ → ℕ → List ℕ → List ℕ → List ℕ → Result ℕ Refusal → State → Type 0
 WindowTold d a b digits old new r s = ReadsBack (of_copy s d a b 5 (length old)) (in_part (text_at s d) a b) digits old new r
+
+-- THE PROMISE, whole: of a shelf over any monoid, and of two marked shelves that may be one. Each was reached by any list of
+-- calls; each call of it is refused exactly where a numbered reason holds; documents, draft and counts are those of the list
+-- of strings; summaries of documents and of parts are folds; slips always show; and read-back is exact.
+pub record Promise {V R : Type 0} {kind : _} (m : Model V R) (shelf : Shelf V R kind)
+    {marks : _} (one : Shelf (Pair Sl2 LineColumn) (Pair Entries LineColumn) marks)
+    {others : _} (other : Shelf (Pair Sl2 LineColumn) (Pair Entries LineColumn) others)
+    (q : Asked) (digits old new : List ℕ) (told : Told V) : Type 0 where
+  pub summaries : Keeps every_shelf m shelf (λ s.
+      DocumentFolds m q.part.document told.summary s × PartFolds m q.part.document q.part.from q.part.to told.part s)
+  pub slips : Keeps every_shelf marked one (λ s. Keeps every_shelf marked other (λ t.
+      SlipsTold q.window.document q.other told.fingerprints s t))
+  pub window : Keeps every_shelf marked one (λ s.
+      WindowTold q.window.document q.window.from q.window.to digits old new told.window s)

@@ -1,5 +1,5 @@
 -- Shelves that calls have reached.
-use Rattle.std.proofs.Common.{◌≡◌, ℕ, ◌+◌, ◌<◌, List, [], ◌∷◌, ◌++◌, length, get_or, take, set, Some, None, Option, Result, refl, sym, ap, ◌∙◌, subst, append-nil}
+use Rattle.std.proofs.Common.{ℕ, ◌+◌, ◌<◌, List, [], ◌∷◌, ◌++◌, length, get_or, take, set, Some, None, Option, Result, refl, sym, subst, append-nil}
 use Rattle.std.proofs.lemmas.List.{take_more, take_more_set, append_assoc}
 use Rattle.rope.specs.Arena.{Root}
 use Rattle.rope.specs.Lents.{Fills}
