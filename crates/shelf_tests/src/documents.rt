@@ -1,12 +1,14 @@
 //! Documents and drafts on a plain shelf.
-use crate::calls::{add, cut, first_wrong, splice};
 use crate::memory::LINE;
 use monoid::Monoid;
 use monoid::line_column::LineColumn;
 use rope::record::Record;
 use shelf_view::draft_id::DraftId;
 use shelf_view::refusal::Refusal;
-use text_shelf::call::Call;
+use std::process::Abort;
+use std::test::Fail;
+use text_shelf::draft::Draft;
+use text_shelf::named::PlainShelf;
 use text_shelf::shelf::Shelf;
 
 // Whether document `d` is `text`, as it is copied to the start of a buffer whose other bytes stay.
@@ -38,8 +40,6 @@ fn other_text<'b, 'a, M: Monoid>(
         .map(|(d, _)| *d)
 }
 
-const DRAFT: DraftId = DraftId { mark: 5, count: 1 };
-
 const TEXTS: [(u32, &[u8]); 6] = [
     (0, b""),
     (1, b"host\nport"),
@@ -49,26 +49,32 @@ const TEXTS: [(u32, &[u8]); 6] = [
     (5, b"one\ntwo"),
 ];
 
+// The number that a seal answers.
+fn sealed(rt: &impl Abort, answer: Result<u32, (Refusal, Draft)>) -> u32 {
+    match answer {
+        Ok(d) => d,
+        Err((_why, _draft)) => panic!(rt; "the draft is not sealed"),
+    }
+}
+
 #[test]
-fn documents_stay(rt: HostRuntime) {
+fn documents_stay(rt: HostRuntime) -> Result<(), Fail> {
     let mut added = [0u8; 20];
     let mut records = [Record::blank(LINE); 300];
     let mut places = [None; 5];
-    let mut shelf: Shelf<LineColumn> = Shelf::new(b"", &mut added, &mut records, &mut places, 5);
-    let edits = [
-        (Call::Put(b"host\nport"), Ok(())),
-        (Call::Put(b"name"), Ok(())),
-        (splice(1, 2, 5, 2), Ok(())),
-        (cut(3, 1, 7), Ok(())),
-        (Call::Open, Ok(())),
-        (add(DRAFT, b"one\n"), Ok(())),
-    ];
-    assert_eq!(rt; first_wrong(&mut shelf, &edits), None);
-    assert_eq!(rt; draft_len(&shelf, DRAFT), Ok(4));
-    let later = [(add(DRAFT, b"two"), Ok(())), (Call::Seal(DRAFT), Ok(()))];
-    assert_eq!(rt; first_wrong(&mut shelf, &later), None);
+    let mut shelf: PlainShelf = Shelf::new(b"", &mut added, &mut records, &mut places, 5);
+    shelf.put(b"host\nport")?;
+    shelf.put(b"name")?;
+    shelf.splice(1, 2, 5, 2)?;
+    shelf.cut(3, 1, 7)?;
+    let draft = shelf.open()?;
+    let id = draft.id();
+    assert_eq!(rt; draft.add(&mut shelf, b"one\n"), Ok(()));
+    assert_eq!(rt; draft_len(&shelf, id), Ok(4));
+    assert_eq!(rt; draft.add(&mut shelf, b"two"), Ok(()));
+    assert_eq!(rt; sealed(&rt, draft.seal(&mut shelf)), 5);
     assert_eq!(rt; other_text(&shelf, &TEXTS), None);
-    assert_eq!(rt; draft_len(&shelf, DRAFT), Err(3));
+    assert_eq!(rt; draft_len(&shelf, id), Err(3));
     assert_eq!(rt;
         shelf.view().part_summary(1, 2, 7),
         Ok(LineColumn {
@@ -76,4 +82,5 @@ fn documents_stay(rt: HostRuntime) {
             columns: 2
         })
     );
+    Ok(())
 }

@@ -6,6 +6,8 @@ mod calls;
 #[cfg(test)]
 mod documents;
 #[cfg(test)]
+mod lists;
+#[cfg(test)]
 mod memory;
 #[cfg(test)]
 mod questions;

@@ -1,15 +1,11 @@
 //! Questions, on a marked shelf.
 use crate::memory::MARKED;
-use monoid::line_column::LineColumn;
-use monoid::pair::Pair;
 use rope::record::Record;
 use shelf_view::refusal::Refusal;
 use shelf_view::sameness::Sameness;
 use std::test::Fail;
+use text_shelf::named::MarkedShelf;
 use text_shelf::shelf::Shelf;
-use zemor::matrix::Sl2;
-
-type Marked = Pair<Sl2, LineColumn>;
 
 // A read-back, a copy or a byte of a document.
 // An enum, for each question has its own arguments: a table of closures would be no plainer.
@@ -22,7 +18,7 @@ enum Ask<'t> {
 
 // The number answered, or the number of the refusal.
 fn asked<'b, 'a, 't>(
-    shelf: &Shelf<'b, 'a, Marked>,
+    shelf: &MarkedShelf<'b, 'a>,
     ask: Ask<'t>,
     out: &mut [u8],
 ) -> Result<usize, u8> {
@@ -39,7 +35,7 @@ fn asked<'b, 'a, 't>(
 type Row = (Ask<'static>, Result<usize, u8>, u8);
 
 // The first question that is answered otherwise, with a buffer of `room` nines.
-fn wrong_row<'b, 'a>(shelf: &Shelf<'b, 'a, Marked>, room: usize, table: &[Row]) -> Option<usize> {
+fn wrong_row<'b, 'a>(shelf: &MarkedShelf<'b, 'a>, room: usize, table: &[Row]) -> Option<usize> {
     table.iter().position(|(ask, answer, first)| {
         let mut out = [9u8; 8];
         asked(shelf, *ask, &mut out[0..room.min(8)]) != *answer || out[0] != *first
@@ -48,7 +44,7 @@ fn wrong_row<'b, 'a>(shelf: &Shelf<'b, 'a, Marked>, room: usize, table: &[Row]) 
 
 // The case and the row of the first such question. A case has the buffer's length.
 fn wrong<'b, 'a>(
-    shelf: &Shelf<'b, 'a, Marked>,
+    shelf: &MarkedShelf<'b, 'a>,
     cases: &[(usize, &'static [Row])],
 ) -> Option<(usize, usize)> {
     cases.iter().enumerate().find_map(|(i, (room, table))| {
@@ -134,7 +130,7 @@ fn reads_back_and_copies(rt: HostRuntime) -> Result<(), Fail> {
     let mut added = [0u8; 2];
     let mut records = [Record::blank(MARKED); 2];
     let mut places = [None; 1];
-    let mut shelf: Shelf<Marked> = Shelf::new(b"", &mut added, &mut records, &mut places, 1);
+    let mut shelf: MarkedShelf = Shelf::new(b"", &mut added, &mut records, &mut places, 1);
     shelf.put(b"ab")?;
     assert_eq!(rt; wrong(&shelf, &CASES), None);
     Ok(())
@@ -142,7 +138,7 @@ fn reads_back_and_copies(rt: HostRuntime) -> Result<(), Fail> {
 
 // The first row for which `same` answers otherwise: a in the first text put, e, b, n and the answer.
 fn unlike<'b, 'a>(
-    shelf: &Shelf<'b, 'a, Marked>,
+    shelf: &MarkedShelf<'b, 'a>,
     table: &[(usize, u32, usize, usize, Result<Sameness, u8>)],
 ) -> Option<usize> {
     let view = shelf.view();
@@ -166,13 +162,7 @@ const COMPARED: [(usize, u32, usize, usize, Result<Sameness, u8>); 8] = [
 fn compares(rt: HostRuntime) -> Result<(), Fail> {
     let mut records = [Record::blank(MARKED); 2];
     let mut places = [None; 1];
-    let mut shelf: Shelf<Marked> = Shelf::new(
-        b"abcdefabcdeg",
-        &mut [],
-        &mut records,
-        &mut places,
-        1,
-    );
+    let mut shelf: MarkedShelf = Shelf::new(b"abcdefabcdeg", &mut [], &mut records, &mut places, 1);
     shelf.take(0, 12)?;
     assert_eq!(rt; unlike(&shelf, &COMPARED), None);
     Ok(())

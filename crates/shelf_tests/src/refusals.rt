@@ -1,12 +1,14 @@
 //! Every call's refusals at their edges.
-use crate::calls::{Row, add, cut, first_wrong, splice, take};
+use crate::calls::{Row, add, cut, first_wrong, first_wrong_on, splice, take};
 use crate::memory::LINE;
 use monoid::line_column::LineColumn;
 use rope::record::Record;
 use shelf_view::draft_id::DraftId;
 use shelf_view::refusal::Refusal;
+use std::process::Abort;
 use std::test::Fail;
 use text_shelf::call::Call;
+use text_shelf::named::PlainShelf;
 use text_shelf::shelf::Shelf;
 
 const BUILD: &[u8; 10] = b"0123456789";
@@ -25,27 +27,27 @@ struct Case<'c> {
     calls: &'c [Row],
 }
 
+// Each call of each case is answered as its row says.
+fn check<'c>(rt: &impl Abort, cases: &[Case<'c>]) {
+    for (i, case) in cases.iter().enumerate() {
+        assert_eq!(rt; wrong_row(rt, case), None, "case {i}");
+    }
+}
+
 // The row of the first call that is answered otherwise.
-fn wrong_row<'c>(case: &Case<'c>) -> Option<usize> {
+fn wrong_row<'c>(rt: &impl Abort, case: &Case<'c>) -> Option<usize> {
     let mut records = [Record::blank(LINE); 200];
     let mut added = [0u8; 4096];
     let mut places = [None; 8];
-    let mut shelf: Shelf<LineColumn> = Shelf::new(
+    first_wrong::<LineColumn>(
+        rt,
         BUILD,
         &mut added[0..case.added.min(4096)],
         &mut records[0..case.records.min(200)],
         &mut places[0..case.places.min(8)],
         7,
-    );
-    first_wrong(&mut shelf, case.calls)
-}
-
-// The case and the row of the first such call.
-fn wrong<'c>(cases: &[Case<'c>]) -> Option<(usize, usize)> {
-    cases
-        .iter()
-        .enumerate()
-        .find_map(|(i, case)| Some((i, wrong_row(case)?)))
+        case.calls,
+    )
 }
 
 // Long texts; memory for text and records and places, each exactly used up; 7 before 11 before 12 before 13.
@@ -104,7 +106,7 @@ fn puts_are_refused(rt: HostRuntime) {
             ],
         },
     ];
-    assert_eq!(rt; wrong(&cases), None);
+    check(&rt, &cases);
 }
 
 // Unknown documents, unlawful parts, and the need of an edit of the empty text.
@@ -145,7 +147,7 @@ fn edits_are_refused(rt: HostRuntime) {
             calls: &[(cut(0, 0, 0), Ok(())), (splice(0, 0, 0, 0), Err(13))],
         },
     ];
-    assert_eq!(rt; wrong(&cases), None);
+    check(&rt, &cases);
 }
 
 // The shelf's drafts, by their count.
@@ -214,7 +216,7 @@ fn drafts_are_refused(rt: HostRuntime) {
             ],
         },
     ];
-    assert_eq!(rt; wrong(&cases), None);
+    check(&rt, &cases);
 }
 
 // A number that the proof does not compute with.
@@ -229,7 +231,7 @@ fn most_is_used(rt: HostRuntime) -> Result<(), Fail> {
     let build = vec![in heap; b'x'; plain(1048577)]?;
     let mut records = vec![in heap; Record::blank(LINE); plain(65540)]?;
     let mut places = vec![in heap; None; plain(4096)]?;
-    let mut shelf: Shelf<LineColumn> = Shelf::new(&build, &mut [], &mut records, &mut places, 7);
+    let mut shelf: PlainShelf = Shelf::new(&build, &mut [], &mut records, &mut places, 7);
     let most = [
         (take(0, 1048577), Err(7)),
         (take(0, 1048576), Ok(())),
@@ -240,11 +242,11 @@ fn most_is_used(rt: HostRuntime) -> Result<(), Fail> {
         (splice(1, 0, 1, 3), Err(12)),
         (Call::Put(b""), Ok(())),
     ];
-    assert_eq!(rt; first_wrong(&mut shelf, &most), None);
+    assert_eq!(rt; first_wrong_on(&rt, &mut shelf, &most), None);
     // That was document 4, and there are 4,095 places.
     for _ in 4..4095 {
         shelf.put(b"")?;
     }
-    assert_eq!(rt; first_wrong(&mut shelf, &[(Call::Put(b""), Err(13))]), None);
+    assert_eq!(rt; shelf.put(b""), Err(Refusal::NumbersSpent));
     Ok(())
 }

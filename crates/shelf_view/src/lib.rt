@@ -2,6 +2,7 @@
 #![tactic(auto)]
 
 pub mod draft_id;
+pub mod marked;
 pub mod refusal;
 pub mod sameness;
 pub mod view;

@@ -3,5 +3,6 @@
 
 pub mod call;
 pub mod draft;
+pub mod named;
 pub mod replay;
 pub mod shelf;

@@ -1,0 +1,124 @@
+//! Lists of calls: how many are run, and whose draft goes on.
+use crate::calls::{UNANSWERED, end};
+use crate::memory::LINE;
+use rope::record::Record;
+use shelf_view::draft_id::DraftId;
+use shelf_view::refusal::Refusal;
+use std::process::Abort;
+use std::test::Fail;
+use text_shelf::call::{Answer, Call};
+use text_shelf::draft::Draft;
+use text_shelf::named::PlainShelf;
+use text_shelf::replay::{Outcome, Resumption, replay, resume};
+use text_shelf::shelf::Shelf;
+
+/// The name of a draft that is open, if one is.
+fn id_of(draft: &Option<Draft>) -> Option<DraftId> {
+    draft.as_ref().map(Draft::id)
+}
+
+const CALLS: [Call<'static>; 3] = [Call::Take { from: 0, to: 1 }, Call::Open, Call::Put(b"")];
+
+// As many calls are run as there are places for answers; places behind the calls stay.
+#[test]
+fn so_many_are_run(rt: HostRuntime) {
+    let mut records = [Record::blank(LINE); 2];
+    let mut places = [None; 2];
+    let mut answers = UNANSWERED;
+    let outcome = replay(
+        b"a",
+        &mut [],
+        &mut records,
+        &mut places,
+        7,
+        &CALLS,
+        &mut answers[0..2],
+    );
+    let Outcome {
+        mut shelf,
+        draft,
+        calls,
+    } = outcome;
+    let shelf: &mut PlainShelf = &mut shelf;
+    assert_eq!(rt; id_of(&draft), Some(DraftId { mark: 7, count: 1 }));
+    assert_eq!(rt; calls, 2);
+    assert!(rt; matches!(answers[0], Ok(Answer::Made(1))));
+    assert!(rt;
+        matches!(
+            answers[1],
+            Ok(Answer::Opened(DraftId { mark: 7, count: 1 }))
+        )
+    );
+    assert!(rt; matches!(answers[2], Err(Refusal::BadCall)));
+    assert_eq!(rt; shelf.view().len(2), Err(Refusal::NoDocument));
+    end(&rt, shelf, draft);
+}
+
+/// How many calls were run on a shelf, or the refusal's number, and the token that is had then.
+fn resumed<'b, 'a>(
+    shelf: &mut PlainShelf<'b, 'a>,
+    draft: Option<Draft>,
+    calls: &[Call<'static>],
+) -> (Result<usize, u8>, Option<Draft>) {
+    match resume(shelf, draft, calls, &mut UNANSWERED) {
+        Ok(Resumption { draft, calls }) => (Ok(calls), draft),
+        Err((why, draft)) => (Err(why.number()), draft),
+    }
+}
+
+/// The draft is not this shelf's: it is handed back, and no call is run.
+fn refuse<'b, 'a>(
+    rt: &impl Abort,
+    shelf: &mut PlainShelf<'b, 'a>,
+    draft: Option<Draft>,
+) -> Option<Draft> {
+    let id = id_of(&draft);
+    let (run, back) = resumed(shelf, draft, &[Call::Put(b"")]);
+    assert_eq!(rt; run, Err(3));
+    assert_eq!(rt; id_of(&back), id);
+    assert_eq!(rt; shelf.view().len(1), Err(Refusal::NoDocument));
+    back
+}
+
+/// A draft of another shelf, which this hands back as it came.
+fn refuse_of<'b, 'a>(
+    rt: &impl Abort,
+    shelf: &mut PlainShelf<'b, 'a>,
+    mark: u32,
+    earlier: &[Call<'static>],
+) {
+    let mut other: PlainShelf = Shelf::new(b"", &mut [], &mut [], &mut [], mark);
+    let (_, none) = resumed(&mut other, None, earlier);
+    end(rt, &mut other, none);
+    let (_, theirs) = resumed(&mut other, None, &[Call::Open]);
+    let theirs = refuse(rt, shelf, theirs);
+    end(rt, &mut other, theirs);
+}
+
+const OWN: DraftId = DraftId { mark: 7, count: 1 };
+
+// Calls go on with the open draft's token alone, and with none where no draft is open. Of another shelf's drafts one has
+// another mark, and one another count.
+#[test]
+fn the_open_draft_goes_on(rt: HostRuntime) {
+    let mut added = [0; 1];
+    let mut records = [Record::blank(LINE); 34];
+    let mut places = [None; 2];
+    let mut shelf: PlainShelf = Shelf::new(b"", &mut added, &mut records, &mut places, 7);
+    refuse_of(&rt, &mut shelf, 7, &[]);
+    let (run, held) = resumed(&mut shelf, None, &[Call::Open]);
+    assert_eq!(rt; run, Ok(1));
+    refuse_of(&rt, &mut shelf, 8, &[]);
+    refuse_of(&rt, &mut shelf, 7, &[Call::Open, Call::GiveUp(OWN)]);
+    let none = refuse(&rt, &mut shelf, None);
+    end(&rt, &mut shelf, none);
+    let add = Call::Add {
+        draft: OWN,
+        text: b"x",
+    };
+    let (run, none) = resumed(&mut shelf, held, &[add, Call::Seal(OWN)]);
+    assert_eq!(rt; run, Ok(2));
+    assert_eq!(rt; shelf.view().len(1), Ok(1));
+    assert_eq!(rt; id_of(&none), None);
+    end(&rt, &mut shelf, none);
+}
