@@ -1,8 +1,8 @@
 -- The laws of the least and the greatest byte.
-use Rattle.std.specs.Prelude.{◌≡◌, ℕ, refl}
+use Rattle.std.specs.Prelude.{◌≡◌, ℕ, refl, unwrap_or}
 use mathlib.Core.HLevel.{×_prop}
 use Rattle.std.proofs.Math.Bridge.{le_prop}
-use Rattle.std.proofs.Common.{arith}
+use Rattle.std.proofs.Common.{sym, ap, arith}
 use Rattle.monoid.specs.Monoid.{Lawful}
 use Rattle.monoid.specs.ValuesLemmas.{same_value}
 use Rattle.byte_range.specs.ByteRangeValues.{Fits, value, byte_range_model}
@@ -21,4 +21,6 @@ lawful = record {
   right = λ x. same _ x (let h = x.fits in omega arith) (omega arith);
   assoc = λ x y z. same _ _ (omega arith) (omega arith);
   back = λ x. refl;
+  exact = λ r x e. sym (ap (λ o. unwrap_or o r) e);
+  rows = λ x y. refl;
 }

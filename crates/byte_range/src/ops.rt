@@ -37,7 +37,11 @@ impl Monoid for ByteRange {
         self
     }
 
-    fn from_row(row: ByteRange) -> ByteRange {
-        row
+    fn check_row(row: ByteRange) -> Option<ByteRange> {
+        Some(row)
+    }
+
+    fn join_rows(left: ByteRange, right: ByteRange) -> ByteRange {
+        left.join(right)
     }
 }

@@ -6,7 +6,14 @@ module _ {V R : Type 0} (m : Model V R) (inv : V → V) (l : Lawful m) (n : Inve
   op : V → V → V
   op = m.joined
 
-  only : (f w b x : V) → m.joined f (m.joined x b) ≡ w → x ≡ m.joined (m.joined (inv f) w) (inv b)
+  -- the one x for which f, x and b, joined in order, are w
+  pub solved : (f w b : V) → m.joined f (m.joined (m.joined (m.joined (inv f) w) (inv b)) b) ≡ w
+  unfolding op
+  solved f w b =
+      ap (op f) (l.assoc (op (inv f) w) (inv b) b ∙ ap (op (op (inv f) w)) (n.before b) ∙ l.right (op (inv f) w))
+      ∙ sym (l.assoc f (inv f) w) ∙ ap (λ t. op t w) (n.after f) ∙ l.left w
+
+  pub only : (f w b x : V) → m.joined f (m.joined x b) ≡ w → x ≡ m.joined (m.joined (inv f) w) (inv b)
   unfolding op
   only f w b x e =
       sym (ap (λ t. op (op (inv f) t) (inv b)) (sym e)

@@ -1,3 +1,5 @@
 pub mod Cancel
 pub mod Folds
 pub mod Pairs
+pub mod Rows
+pub mod Polynomials

@@ -1,6 +1,6 @@
 -- Karp and Rabin's fingerprint (1987): a polynomial modulo p = 2^31 - 1, with the power of the base that shifts by
 -- the text's length and the inverse of that power.
-use Rattle.std.specs.Prelude.{ℕ, ◌+◌, ◌*◌, ◌%◌}
+use Rattle.std.specs.Prelude.{ℕ, ◌+◌, ◌*◌, ◌%◌, ◌^◌, List, [], ◌∷◌, length}
 use Rattle.residue.specs.Residue.{prime, minus}
 use Rattle.monoid.specs.declared.karp_rabin.KarpRabinRow.{KarpRabinRow}
 
@@ -22,3 +22,8 @@ joined x y = hwv ((x.h * y.w + y.h) % prime) (x.w * y.w % prime) (x.v * y.v % pr
 -- the inverse of (h, w, v) is (-h × v, v, w) modulo p
 abbrev pub inverse : KarpRabinRow → KarpRabinRow
 inverse x = hwv (minus x.h * x.v % prime) x.v x.w
+
+-- the polynomial of a text, over whole numbers: each byte plus 1, times 16807 for each byte behind it
+abbrev pub polynomial : List ℕ → ℕ
+polynomial [] = 0
+polynomial (k ∷ ks) = (k + 1) * 16807 ^ length ks + polynomial ks

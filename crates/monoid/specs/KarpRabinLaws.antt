@@ -1,5 +1,5 @@
 -- The laws of Karp and Rabin's fingerprint.
-use Rattle.std.specs.Prelude.{◌≡◌, ℕ, ◌+◌, ◌*◌, ◌%◌, Option, MatchOption, unwrap_or, refl}
+use Rattle.std.specs.Prelude.{◌≡◌, ℕ, ◌+◌, ◌*◌, ◌%◌, Some, Option, MatchOption, refl}
 use Rattle.std.proofs.Common.{sym, ap, ◌∙◌, mul_comm, arith}
 use mathlib.Core.HLevel.{×_prop}
 use Rattle.std.proofs.Math.Nat.{ℕ_set, mod-mod}
@@ -12,7 +12,7 @@ use Rattle.monoid.specs.KarpRabin.{hwv}
 use Rattle.monoid.specs.KarpRabinValues.{Valid, value, row, row_valid, valid_dec, empty, karp_rabin_model, inverse_of}
 use Rattle.monoid.specs.declared.karp_rabin.KarpRabin.{KarpRabin}
 use Rattle.monoid.specs.declared.karp_rabin.KarpRabinRow.{KarpRabinRow}
-use Rattle.monoid.specs.ValuesLemmas.{same_value, checked_valid, checked_none, checked_or}
+use Rattle.monoid.specs.ValuesLemmas.{same_value, if_valid_some, if_valid_exact, if_valid_is}
 
 valid_prop : (r : KarpRabinRow) → IsProp (Valid r)
 valid_prop r = ×_prop (×_prop le_prop le_prop) (×_prop le_prop (ℕ_set _ _))
@@ -25,15 +25,12 @@ same x y eh ew ev = same_value valid_prop value (row_valid x) (row_valid y) (λ 
 pub like : (x : KarpRabin) (h w v : ℕ) → h ≡ x.h.n → w ≡ x.w.n → v ≡ x.v.n → Valid (hwv h w v)
 like x h w v eh ew ev = rw (eh, ew, ev) (row_valid x)
 
-pub told : (x : KarpRabin) → karp_rabin_model.value (row x) ≡ x
-told x = checked_valid valid_prop value empty (row x) (valid_dec (row x)) (row_valid x)
+back : (x : KarpRabin) → karp_rabin_model.check_row (row x) ≡ Some x
+back x = if_valid_some valid_prop value (row x) (valid_dec (row x)) (row_valid x)
 
-pub told_none : (r : KarpRabinRow) → ¬ (Valid r) → karp_rabin_model.value r ≡ empty
-told_none r n = checked_none valid_prop value empty r (valid_dec r) n
-
--- the value with a row, or else the empty value
-pub told_or : (r : KarpRabinRow) (o : Option KarpRabin) → MatchOption o (¬ (Valid r)) (λ x. row x ≡ r) → unwrap_or o empty ≡ karp_rabin_model.value r
-told_or r o h = checked_or valid_prop value empty row valid_dec told r o h
+-- what is answered is the value with the row, or none where there is no such value
+pub check_row_is : (r : KarpRabinRow) (o : Option KarpRabin) → MatchOption o (¬ (Valid r)) (λ x. row x ≡ r) → o ≡ karp_rabin_model.check_row r
+check_row_is r o h = if_valid_is valid_prop value row (λ s p. refl) valid_dec back r o h
 
 times_assoc : (a b c : ℕ) → (a * b % prime * c) % prime ≡ (a * (b * c % prime)) % prime
 times_assoc a b c =
@@ -53,7 +50,9 @@ lawful = record {
   left = λ x. same _ x (stays _ _ (omega arith) x.h.low) (stays _ _ (omega arith) x.w.low) (stays _ _ (omega arith) x.v.low);
   right = λ x. same _ x (stays _ _ (omega arith) x.h.low) (stays _ _ (omega arith) x.w.low) (stays _ _ (omega arith) x.v.low);
   assoc = λ x y z. same _ _ (joined_assoc x.h.n y.h.n z.h.n y.w.n z.w.n) (times_assoc x.w.n y.w.n z.w.n) (times_assoc x.v.n y.v.n z.v.n);
-  back = told;
+  back = back;
+  exact = λ r x e. if_valid_exact valid_prop value row (λ s p. refl) r (valid_dec r) x e;
+  rows = λ x y. refl;
 }
 
 -- w and v, multiplied in the other order

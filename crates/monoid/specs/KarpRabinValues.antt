@@ -1,13 +1,13 @@
 -- The values of Karp and Rabin's fingerprint are the rows with each number below p, and w × v equal to 1 modulo p.
 use Rattle.std.proofs.Common.{ap, ◌∙◌, mul_comm, lit<}
 use Rattle.std.proofs.Math.Logic.Dec.{and}
-use Rattle.std.specs.Prelude.{◌≡◌, ◌+◌, ◌*◌, ◌%◌, ◌<◌, refl}
+use Rattle.std.specs.Prelude.{◌≡◌, ◌*◌, ◌%◌, ◌<◌, refl}
 use Rattle.std.proofs.Math.Decide.{dec_lt, ℕ_discrete}
 use Rattle.residue.specs.Residue.{prime}
 use Rattle.residue.specs.Values.{residue}
 use Rattle.residue.proofs.Modulo.{inverse_times}
 use Rattle.residue.proofs.Bounds.{below_prime}
-use Rattle.monoid.specs.Monoid.{Model, checked}
+use Rattle.monoid.specs.Monoid.{Model, if_valid}
 use Rattle.monoid.specs.KarpRabin as rows
 use Rattle.monoid.specs.declared.karp_rabin.KarpRabin.{KarpRabin}
 use Rattle.monoid.specs.declared.karp_rabin.KarpRabinRow.{KarpRabinRow}
@@ -50,10 +50,11 @@ empty = value rows.empty ((lit< tt, lit< tt), (lit< tt, refl))
 abbrev pub karp_rabin_model : Model KarpRabin KarpRabinRow
 karp_rabin_model = record {
   empty = empty;
-  of_byte = λ k. value (rows.of_byte k) ((below_prime (k + 1), lit< tt), (lit< tt, refl));
+  of_byte = λ k. value (rows.of_byte k) ((below_prime _, lit< tt), (lit< tt, refl));
   joined = λ x y. value (rows.joined (row x) (row y)) (joined_valid x y);
   row = row;
-  value = λ r. checked value empty r (valid_dec r);
+  check_row = λ r. if_valid value r (valid_dec r);
+  joined_rows = rows.joined;
 }
 
 abbrev pub inverse_of : KarpRabin → KarpRabin

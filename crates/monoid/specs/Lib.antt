@@ -4,6 +4,7 @@ pub mod LineColumnValues
 pub mod KarpRabin
 pub mod KarpRabinValues
 pub mod Pair
+pub mod PairLaws
 pub mod KarpRabinLaws
 pub mod ValuesLemmas
 pub mod LineColumnLaws

@@ -1,8 +1,8 @@
 -- The laws of line-column.
-use Rattle.std.specs.Prelude.{◌≡◌, ℕ, ◌^◌, ◌<◌, cond, nat_lt, refl}
+use Rattle.std.specs.Prelude.{◌≡◌, ℕ, ◌^◌, ◌<◌, cond, nat_lt, refl, unwrap_or}
 use mathlib.Core.HLevel.{×_prop}
 use Rattle.std.proofs.Math.Bridge.{le_prop}
-use Rattle.std.proofs.Common.{arith}
+use Rattle.std.proofs.Common.{sym, ap, arith}
 use Rattle.std.proofs.lemmas.Bool.Decides.{nat_tests}
 use Rattle.monoid.specs.Monoid.{Lawful}
 use Rattle.monoid.specs.LineColumn.{capped}
@@ -32,4 +32,6 @@ lawful = record {
   right = λ x. same _ x (omega arith) (omega arith);
   assoc = λ x y z. same _ _ (omega arith) (columns_assoc y.lines z.lines x.columns y.columns z.columns);
   back = λ x. refl;
+  exact = λ r x e. sym (ap (λ o. unwrap_or o r) e);
+  rows = λ x y. refl;
 }

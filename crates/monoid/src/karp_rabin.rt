@@ -5,6 +5,7 @@ ghost use Rattle.residue.specs.Residue.{prime};
 use residue::Residue;
 
 pub mod ops;
+pub mod text;
 
 /// A text's polynomial h, with the power w of the base that shifts by the text's length, and its inverse v.
 #[derive(Clone, Copy)]

@@ -2,7 +2,7 @@
 #![tactic(auto)]
 
 ghost use Rattle.std.specs.Prelude.{◌≡◌};
-ghost use Rattle.monoid.specs.Monoid.{Model, Lawful, Inverse, fold_of};
+ghost use Rattle.monoid.specs.Monoid.{Model, Lawful, Inverse, fold_of, from_row};
 
 pub mod fold;
 pub mod karp_rabin;
@@ -45,17 +45,22 @@ pub trait Monoid: Copy {
     fn to_row(self) -> Self::Row
         ensures { result ≡ model.row self };
 
+    /// The value of a row, or none where the row is no value's.
+    fn check_row(row: Self::Row) -> Option<Self>
+        ensures { result ≡ model.check_row row };
+
     /// The value of a row; the empty value where the row is no value's.
     fn from_row(row: Self::Row) -> Self
-        ensures { result ≡ model.value row };
-
-    /// The row of two values joined, from their rows. Of rows that are no values' nothing is said, so a monoid that makes it
-    /// in its own way need not test them.
-    fn join_rows(left: Self::Row, right: Self::Row) -> Self::Row
-        ensures { (x y : Self) → model.row x ≡ left → model.row y ≡ right → result ≡ model.row (model.joined x y) }
+        ensures value { result ≡ from_row model row }
+        ensures back { (x : Self) → model.row x ≡ row → result ≡ x }
+        ensures none { ((x : Self) → ¬ (model.row x ≡ row)) → result ≡ model.empty }
     {
-        Self::from_row(left).join(Self::from_row(right)).to_row()
+        Self::check_row(row).unwrap_or(Self::empty())
     }
+
+    /// The row of two values joined, from their rows. Rows that are no values' are joined by the same formula, untested.
+    fn join_rows(left: Self::Row, right: Self::Row) -> Self::Row
+        ensures { result ≡ model.joined_rows left right };
 
     /// The laws that every impl owes.
     ghost lawful: { Lawful model };

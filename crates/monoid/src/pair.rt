@@ -1,5 +1,6 @@
 //! Two monoids side by side.
 ghost use Rattle.monoid.specs.Pair.{pair_model, pair_inverse};
+ghost use Rattle.monoid.specs.PairLaws;
 ghost use Rattle.std.proofs.Common.{rules};
 
 use crate::{Group, Monoid};
@@ -15,7 +16,7 @@ impl<A: Monoid, B: Monoid> Monoid for Pair<A, B> {
 
     ghost model = { pair_model A.Monoid.model B.Monoid.model };
 
-    ghost lawful = { Prim.search rules };
+    ghost lawful = { PairLaws.lawful A.Monoid.model B.Monoid.model A.Monoid.lawful B.Monoid.lawful };
 
     fn empty() -> Pair<A, B> {
         Pair {
@@ -52,11 +53,11 @@ impl<A: Monoid, B: Monoid> Monoid for Pair<A, B> {
         }
     }
 
-    fn from_row(row: Pair<A::Row, B::Row>) -> Pair<A, B> {
-        Pair {
-            first: A::from_row(row.first),
-            second: B::from_row(row.second),
-        }
+    fn check_row(row: Pair<A::Row, B::Row>) -> Option<Pair<A, B>> {
+        Some(Pair {
+            first: A::check_row(row.first)?,
+            second: B::check_row(row.second)?,
+        })
     }
 
     fn join_rows(left: Pair<A::Row, B::Row>, right: Pair<A::Row, B::Row>) -> Pair<A::Row, B::Row> {

@@ -74,14 +74,12 @@ pub fn dot(a: Residue, b: Residue, e: Residue, g: Residue) -> Residue
     reduced(a.n as u64 * e.n as u64 + b.n as u64 * g.n as u64)
 }
 
-/// The row (a, b) times the column (e, g), of any numbers: the sum is cut to 64 bits, and then reduced once. Of numbers
-/// below p it is below 2^63, and nothing is cut off.
-#[tactic(auto, using(crate::proofs::Bounds::dot_fits))]
+/// The row (a, b) times the column (e, g), of any numbers. Each product is folded before they are added, so that the sum
+/// fits.
 pub fn dot_any(a: u32, b: u32, e: u32, g: u32) -> Residue
-    ensures value { result.n ≡ (a * e + b * g) % 2 ^ 64 % prime }
-    ensures low { a < prime → b < prime → e < prime → g < prime → result.n ≡ row_by_column a b e g }
+    ensures { result.n ≡ row_by_column a b e g }
 {
-    reduced((a as u64 * e as u64).wrapping_add(b as u64 * g as u64))
+    lowered(folded(folded(a as u64 * e as u64) + folded(b as u64 * g as u64)))
 }
 
 /// A number that is n modulo p: what stands from bit 31 on counts 2^31, which is 1 modulo p.
@@ -95,9 +93,17 @@ fn folded(n: u64) -> u64
 fn reduced(n: u64) -> Residue
     ensures { result.n ≡ n % prime }
 {
-    let twice = folded(folded(n)) as u32;
+    lowered(folded(folded(n)))
+}
+
+/// n modulo p, of a number below 2 * p.
+fn lowered(n: u64) -> Residue
+    requires { n < 2 * prime }
+    ensures { result.n ≡ n % prime }
+{
+    let small = n as u32;
     Residue {
-        n: if twice < P { twice } else { twice - P },
+        n: if small < P { small } else { small - P },
     }
 }
 

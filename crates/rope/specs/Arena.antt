@@ -1,6 +1,6 @@
 -- What the used memory means: each record's tree, and what holds of all of them.
 use Rattle.std.specs.Prelude.{◌≡◌, ℕ, ◌+◌, ◌^◌, ◌<◌, ◌≤◌, Bool, true, List, [], ◌∷◌, ◌++◌, map, length, take, drop, Some, None, Option, nat_lt, slice_index_or}
-use Rattle.monoid.specs.Monoid.{Model, fold_of}
+use Rattle.monoid.specs.Monoid.{Model, fold_of, from_row}
 use Rattle.rope.specs.Tree.{Tree, leaf, node, text, size, height, lawful, all_lawful}
 use Rattle.rope.specs.declared.record.Record.{Record}
 use Rattle.rope.specs.declared.record.Shape.{Shape}
@@ -103,7 +103,7 @@ height_of a (Some i) = height (tree_at a i)
 
 abbrev pub kept_of : {V R : Type 0} → Model V R → Arena R → Root → V
 kept_of m a None = m.empty
-kept_of m a (Some i) = m.value (slice_index_or (map (λ r. r.row) a.records) i (m.row m.empty))
+kept_of m a (Some i) = from_row m (slice_index_or (map (λ r. r.row) a.records) i (m.row m.empty))
 
 -- a root is empty, or one of the first n records
 abbrev pub rooted : ℕ → Root → Bool

@@ -2,7 +2,8 @@
 use Rattle.std.proofs.Common.{◌≡◌, ℕ, zero, suc, ◌<◌, true, [], length, get_or, sym, Some, None, refl, ap, ◌∙◌, arith}
 use Rattle.std.proofs.lemmas.List.{get_or-map, length-map}
 use Rattle.std.proofs.lemmas.Bool.{ltb-true}
-use Rattle.monoid.specs.Monoid.{Model, Lawful, fold_of}
+use Rattle.monoid.specs.Monoid.{Model, Lawful, fold_of, from_row}
+use Rattle.monoid.proofs.Rows.{from_row_back}
 use Rattle.rope.specs.Tree.{leaf, text}
 use Rattle.rope.specs.Arena.{Arena, Root, Summed, forest, tree_at, text_of, kept_of, row_in, rooted}
 use Rattle.rope.proofs.Forests.{length_grown}
@@ -14,8 +15,9 @@ kept_fold : {V R : Type 0} (m : Model V R) → Lawful m → (a : Arena R) → Su
 kept_fold m l a w None h = refl
 kept_fold m l a w (Some i) h =
     let below : i < length (forest a) = omega (arith, ltb-true i (length a.records) h, length_grown a.build a.added [] a.records) in
-    ap (λ rows. m.value (get_or rows i (m.row m.empty))) w
-    ∙ ap m.value (get_or-map (row_in m) (forest a) i (leaf []) (m.row m.empty) below) ∙ l.back (fold_of m (text (tree_at a i)))
+    ap (λ rows. from_row m (get_or rows i (m.row m.empty))) w
+    ∙ ap (from_row m) (get_or-map (row_in m) (forest a) i (leaf []) (m.row m.empty) below)
+    ∙ from_row_back m l (fold_of m (text (tree_at a i)))
 
 pub documents_fold : {V R : Type 0} (m : Model V R) → Lawful m → (s : Shelved R) → Summed m s.arena → all_fine s.arena s.roots ≡ true
     → (d : ℕ) → d < length (state_of s).texts → get_or (kept_values m s) d m.empty ≡ fold_of m (text_at (state_of s) d)

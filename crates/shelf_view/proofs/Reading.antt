@@ -1,5 +1,5 @@
 -- Reading a window back.
-use Rattle.std.proofs.Common.{◌≡◌, ℕ, ◌<◌, ◌≤◌, List, ◌++◌, length, take, drop, Some, None, Ok, Err, Option, Result, sym, refl, ap, ◌∙◌, arith}
+use Rattle.std.proofs.Common.{◌≡◌, ℕ, ◌<◌, ◌≤◌, List, ◌++◌, length, take, drop, Some, None, Ok, Err, Option, Result, unwrap_or, sym, refl, ap, ◌∙◌, arith}
 use Rattle.std.specs.List.{between}
 use Rattle.std.specs.Option.{ok_or}
 use Rattle.std.proofs.lemmas.Slice.{between_from_start, between_to_end}
@@ -12,11 +12,11 @@ use Rattle.monoid.proofs.Folds.{fold_append}
 use Rattle.zemor.specs.Values.{sl2}
 use Rattle.zemor.specs.Windows as window
 use Rattle.zemor.specs.Windows.{ReadBack, window_text}
-use Rattle.zemor.specs.Written.{entries_of, unhex, WellFormed, ReadHex}
+use Rattle.zemor.specs.Written.{read_hex, WellFormed, ReadHex}
 use Rattle.zemor.specs.declared.matrix.Entries.{Entries}
 use Rattle.zemor.specs.declared.matrix.Sl2.{Sl2}
 use Rattle.zemor.specs.declared.window.Window.{Window}
-use Rattle.zemor.specs.Laws.{same, lawful}
+use Rattle.zemor.specs.Laws.{lawful}
 use Rattle.zemor.proofs.Writing.{hex_back}
 use Rattle.rope.specs.Arena.{text_of}
 use Rattle.shelf_view.specs.State.{Shelved, state_of, text_at}
@@ -29,7 +29,7 @@ use Rattle.shelf_view.proofs.Marking.{first_half}
 
 -- a fingerprint is told by its digits
 written_back : (x y : Sl2) → written x ≡ written y → x ≡ y
-written_back x y e = same x y (sym (hex_back x).1 ∙ ap (λ t. entries_of (unhex t)) e ∙ (hex_back y).1)
+written_back x y e = ap (λ o. unwrap_or o x) (sym (hex_back x).1 ∙ ap read_hex e ∙ (hex_back y).1)
 
 three : (u w v : List ℕ) → fingerprint (u ++ (w ++ v)) ≡ sl2.joined (fingerprint u) (sl2.joined (fingerprint w) (fingerprint v))
 three u w v = fold_append sl2 lawful u (w ++ v) ∙ ap (sl2.joined (fingerprint u)) (fold_append sl2 lawful w v)

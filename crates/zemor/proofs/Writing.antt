@@ -1,5 +1,5 @@
 -- The written forms, read and written.
-use Rattle.std.proofs.Common.{◌≡◌, ℕ, zero, suc, ◌+◌, ◌*◌, ◌/◌, ◌%◌, ◌<◌, ◌≤◌, Bool, true, false, ◌&&◌, eqb, ltb, inl, inr, List, [], ◌∷◌, ◌++◌, length, get_or, take, drop, Some, None, Option, Result, Ok, Err, sym, refl, ap, ◌∙◌, mod-eq_of_lt, arith}
+use Rattle.std.proofs.Common.{◌≡◌, ℕ, zero, suc, ◌+◌, ◌*◌, ◌/◌, ◌%◌, ◌<◌, ◌≤◌, Bool, true, false, cond, ◌&&◌, eqb, ltb, inl, inr, List, [], ◌∷◌, ◌++◌, length, get_or, take, drop, Some, None, Option, Result, Ok, Err, sym, refl, ap, ◌∙◌, mod-eq_of_lt, arith}
 use Rattle.std.specs.Prelude.{slice_index}
 use Rattle.std.specs.Char.{is_ascii_uppercase}
 use Rattle.std.specs.List.{list_any, AllPass}
@@ -21,12 +21,12 @@ use Rattle.residue.specs.Residue.{prime}
 use Rattle.monoid.specs.Monoid.{all_bytes}
 use Rattle.monoid.proofs.Folds.{all_bytes_append, all_bytes_take, all_bytes_drop}
 use Rattle.zemor.specs.Bits.{digits_in}
-use Rattle.zemor.specs.Values.{row, Checked}
-use Rattle.zemor.specs.Written.{bytes_of, entries_of, hex_digit, hex_value, is_hex, all_hex, hex, unhex, WellFormed, ReadBytes, ReadHex, Decoded}
+use Rattle.zemor.specs.Values.{sl2, row}
+use Rattle.zemor.specs.Written.{bytes_of, entries_of, hex_digit, hex_value, is_hex, all_hex, hex, unhex, read_bytes, read_hex, WellFormed, ReadBytes, ReadHex, Decoded}
 use Rattle.zemor.specs.declared.matrix.Entries.{Entries}
 use Rattle.zemor.specs.declared.matrix.Sl2.{Sl2}
 use Rattle.zemor.proofs.Digits.{number_digits, digits_number}
-use Rattle.zemor.specs.Laws.{four, like}
+use Rattle.zemor.specs.Laws.{four, like, back, exact, none_invalid}
 use Rattle.zemor.proofs.Windowing.{all_bytes_in}
 
 -- four bytes of a number below p write it
@@ -107,9 +107,14 @@ all_bytes_of e =
     all_bytes_append (q e.a) (q e.b ++ (q e.c ++ q e.d)) (all e.a)
     (all_bytes_append (q e.b) (q e.c ++ q e.d) (all e.b) (all_bytes_append (q e.c) (q e.d) (all e.c) (all e.d)))
 
-pub read_bytes : (bs : List ℕ) (e : Entries) (o : Option Sl2) → e ≡ entries_of bs → length bs ≡ 16 → all_bytes bs ≡ true → Checked e o → ReadBytes bs o
-read_bytes bs e (Some x) is h all found = let r = found ∙ is in (r, ap bytes_of r ∙ bytes_back bs h all)
-read_bytes bs e None is h all none = rw is at none
+-- a value's bytes are read as it
+pub bytes_read : (x : Sl2) (bs : List ℕ) → bs ≡ bytes_of (row x) → read_bytes bs ≡ Some x
+bytes_read x bs e = ap read_bytes e ∙ ap sl2.check_row (entries_back x) ∙ back x
+
+-- what is read of sixteen bytes writes them again
+pub bytes_again : (bs : List ℕ) (o : Option Sl2) → length bs ≡ 16 → all_bytes bs ≡ true → o ≡ read_bytes bs → ReadBytes bs o
+bytes_again bs (Some x) h all is = let r = exact (entries_of bs) x (sym is) in (r, ap bytes_of r ∙ bytes_back bs h all)
+bytes_again bs None h all is = none_invalid (entries_of bs) (sym is)
 
 digit_back : (k : ℕ) → k < 16 → hex_value (hex_digit k) ≡ k
 digit_back k h = grind (arith, by_tests)
@@ -239,21 +244,41 @@ decoded text (Ok bs) is none =
     (found.0, all, cc same)
 decoded text (Err e) is none = λ h. let same = is ∙ text_read text h.0 h.1 in cc same
 
-pub hex_back : (x : Sl2) → WellFormed (hex (bytes_of (row x))) × (entries_of (unhex (hex (bytes_of (row x)))) ≡ row x)
+-- 32 digits are read by their bytes, and no other text is
+digits_read : (text : List ℕ) → length text ≡ 32 → all_hex text ≡ true → read_hex text ≡ read_bytes (unhex text)
+digits_read text h all = rw (h, all) refl
+
+none_where : (b : Bool) (o : Option Sl2) → ¬ (b ≡ true) → None ≡ cond b o None
+none_where true o n = absurd (n refl)
+none_where false o n = refl
+
+pub others_unread : (text : List ℕ) → ¬ ((length text ≡ 32) × (all_hex text ≡ true)) → None ≡ read_hex text
+others_unread text n =
+    none_where (eqb (length text) 32 && all_hex text) (read_bytes (unhex text))
+    (λ e. let p = and_parts (eqb (length text) 32) (all_hex text) e in n (eqb-true _ _ p.0, p.1))
+
+pub hex_read : (text bs : List ℕ) (o : Option Sl2) → Decoded text (Some bs) → o ≡ read_bytes bs → o ≡ read_hex text
+hex_read text bs o d is = is ∙ ap read_bytes d.2 ∙ sym (digits_read text d.0 d.1)
+
+-- a value's digits are well formed, and are read as it
+pub hex_back : (x : Sl2) → WellFormed (hex (bytes_of (row x))) × (read_hex (hex (bytes_of (row x))) ≡ Some x)
 hex_back x =
     let bs = bytes_of (row x) in
     let all = all_bytes_of (row x) in
-    let back : entries_of (unhex (hex bs)) ≡ row x = ap entries_of (unhex_hex bs all) ∙ entries_back x in
-    ((length_hex bs, (hex_all bs all, like x (entries_of (unhex (hex bs))) back)), back)
+    let same : unhex (hex bs) ≡ bs = unhex_hex bs all in (
+      (length_hex bs, (hex_all bs all, like x (entries_of (unhex (hex bs))) (ap entries_of same ∙ entries_back x))),
+      digits_read (hex bs) (length_hex bs) (hex_all bs all) ∙ bytes_read x (unhex (hex bs)) same,
+    )
 
-pub read_hex : (text bs : List ℕ) (o : Option Sl2) → Decoded text (Some bs) → ReadBytes bs o → ReadHex text o
-read_hex text bs (Some x) d r =
+-- what is read of a text writes it again
+pub hex_again : (text bs : List ℕ) (o : Option Sl2) → Decoded text (Some bs) → ReadBytes bs o → ReadHex text o
+hex_again text bs (Some x) d r =
     let is : row x ≡ entries_of (unhex text) = r.0 ∙ ap entries_of d.2 in (
       (d.0, (d.1, like x (entries_of (unhex text)) (sym is))),
       is,
       ap hex (r.1 ∙ d.2) ∙ hex_unhex 16 text d.0 d.1,
     )
-read_hex text bs None d r = λ w. r (rw d.2 w.1.1)
+hex_again text bs None d r = λ w. r (rw d.2 w.1.1)
 
 digit_ascii : (k : ℕ) → k < 16 → hex_digit k < 128
 digit_ascii k h = grind (arith, by_tests)

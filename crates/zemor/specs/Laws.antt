@@ -1,6 +1,6 @@
 -- The laws of the product and the inverse.
-use Rattle.std.specs.Prelude.{◌≡◌, ℕ, ◌+◌, ◌*◌, ◌%◌, ◌<◌, Some, None, Option, unwrap_or}
-use Rattle.std.proofs.Common.{ap, ◌∙◌, arith}
+use Rattle.std.specs.Prelude.{◌≡◌, ℕ, ◌+◌, ◌*◌, ◌%◌, ◌<◌, Some, None, Option, MatchOption, refl}
+use Rattle.std.proofs.Common.{sym, ap, ◌∙◌, arith}
 use mathlib.Core.HLevel.{×_prop}
 use Rattle.std.proofs.Math.Nat.{ℕ_set}
 use Rattle.std.proofs.Math.Bridge.{le_prop}
@@ -8,9 +8,9 @@ use Rattle.residue.specs.Residue.{prime, minus}
 use Rattle.residue.proofs.Bounds.{stays}
 use Rattle.residue.proofs.Modulo.{dot_dot, cancels, comes_to_one}
 use Rattle.monoid.specs.Monoid.{Lawful, Inverse}
-use Rattle.monoid.specs.ValuesLemmas.{same_value, checked_valid, checked_none, checked_or}
+use Rattle.monoid.specs.ValuesLemmas.{same_value, if_valid_some, if_valid_exact, if_valid_is}
 use Rattle.zemor.specs.Matrix.{matrix, times}
-use Rattle.zemor.specs.Values.{Valid, value, row, row_valid, valid_dec, one, sl2, inverse_of, Checked}
+use Rattle.zemor.specs.Values.{Valid, value, row, row_valid, valid_dec, one, sl2, inverse_of}
 use Rattle.zemor.specs.declared.matrix.Sl2.{Sl2}
 use Rattle.zemor.specs.declared.matrix.Entries.{Entries}
 
@@ -29,16 +29,19 @@ same x y e = same_value valid_prop value (row_valid x) (row_valid y) e
 pub like : (x : Sl2) (e : Entries) → e ≡ row x → Valid e
 like x e h = rw h (row_valid x)
 
-pub told : (x : Sl2) → sl2.value (row x) ≡ x
-told x = checked_valid valid_prop value one (row x) (valid_dec (row x)) (row_valid x)
+pub back : (x : Sl2) → sl2.check_row (row x) ≡ Some x
+back x = if_valid_some valid_prop value (row x) (valid_dec (row x)) (row_valid x)
 
-pub told_none : (e : Entries) → ¬ (Valid e) → sl2.value e ≡ one
-told_none e n = checked_none valid_prop value one e (valid_dec e) n
+pub exact : (e : Entries) (x : Sl2) → sl2.check_row e ≡ Some x → row x ≡ e
+exact e x h = if_valid_exact valid_prop value row (λ s p. refl) e (valid_dec e) x h
 
--- the value with these entries, or else one
-pub told_or : (e : Entries) (o : Option Sl2) → Checked e o → unwrap_or o one ≡ sl2.value e
-told_or e (Some x) h = checked_or valid_prop value one row valid_dec told e (Some x) h
-told_or e None n = checked_or valid_prop value one row valid_dec told e None n
+-- what is answered is the value with these entries, or none where there is no such value
+pub check_row_is : (e : Entries) (o : Option Sl2) → MatchOption o (¬ (Valid e)) (λ x. row x ≡ e) → o ≡ sl2.check_row e
+check_row_is e o h = if_valid_is valid_prop value row (λ s p. refl) valid_dec back e o h
+
+-- where no value is found, the entries do not meet the conditions
+pub none_invalid : (e : Entries) → sl2.check_row e ≡ None → ¬ (Valid e)
+none_invalid e h v = cc (sym (if_valid_some valid_prop value e (valid_dec e) v) ∙ h)
 
 -- entries below p are their own remainders
 low : (x : Sl2) (e : Entries) → e.a ≡ x.a.n → e.b ≡ x.b.n → e.c ≡ x.c.n → e.d ≡ x.d.n
@@ -64,7 +67,9 @@ lawful = record {
   left = λ x. same _ x (low x (whole_of (row one) (row x)) (omega arith) (omega arith) (omega arith) (omega arith));
   right = λ x. same _ x (low x (whole_of (row x) (row one)) (omega arith) (omega arith) (omega arith) (omega arith));
   assoc = λ x y z. same _ _ (times_assoc (row x) (row y) (row z));
-  back = told;
+  back = back;
+  exact = exact;
+  rows = λ x y. refl;
 }
 
 -- a sum that is turned to come to 0 or to 1

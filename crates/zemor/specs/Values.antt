@@ -1,5 +1,5 @@
 -- The values of the fingerprint are the matrices with entries below p and a × d - b × c equal to 1 modulo p.
-use Rattle.std.specs.Prelude.{◌≡◌, ℕ, ◌+◌, ◌*◌, ◌%◌, ◌<◌, Bool, true, false, List, [], ◌∷◌, Some, None, Option, refl}
+use Rattle.std.specs.Prelude.{◌≡◌, ℕ, ◌+◌, ◌*◌, ◌%◌, ◌<◌, Bool, true, false, List, [], ◌∷◌, refl}
 use Rattle.std.proofs.Math.Logic.Dec.{and}
 use Rattle.std.proofs.Math.Decide.{dec_lt, ℕ_discrete}
 use Rattle.std.proofs.Common.{lit<}
@@ -7,7 +7,7 @@ use Rattle.residue.specs.Residue.{prime}
 use Rattle.residue.specs.Values.{residue}
 use Rattle.residue.proofs.Bounds.{below_prime}
 use Rattle.residue.proofs.Modulo.{det_dot, det_inverse}
-use Rattle.monoid.specs.Monoid.{Model, checked}
+use Rattle.monoid.specs.Monoid.{Model, if_valid}
 use Rattle.zemor.specs.Matrix.{matrix, identity, times, inverse, bit}
 use Rattle.zemor.specs.Bits.{product_of, byte_product, bits_in}
 use Rattle.zemor.specs.declared.matrix.Sl2.{Sl2}
@@ -75,13 +75,9 @@ sl2 = record {
   of_byte = λ k. value (byte_product k) (byte_valid k);
   joined = λ x y. value (times (row x) (row y)) (times_valid (row x) (row y) (row_valid x) (row_valid y));
   row = row;
-  value = λ e. checked value one e (valid_dec e);
+  check_row = λ e. if_valid value e (valid_dec e);
+  joined_rows = times;
 }
 
 abbrev pub inverse_of : Sl2 → Sl2
 inverse_of x = value (inverse (row x)) (inverse_valid x)
-
--- the value with these entries, or none where the entries are no value's
-abbrev pub Checked : Entries → Option Sl2 → Type 0
-Checked e (Some x) = row x ≡ e
-Checked e None = ¬ (Valid e)

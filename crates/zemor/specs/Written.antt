@@ -1,9 +1,9 @@
 -- The written forms of a fingerprint.
-use Rattle.std.specs.Prelude.{◌≡◌, ℕ, ◌+◌, ◌-◌, ◌*◌, ◌/◌, ◌%◌, Bool, true, cond, ◌&&◌, ◌||◌, List, [], ◌∷◌, ◌++◌, length, take, drop, Some, None, Option, nat_le, nat_lt}
+use Rattle.std.specs.Prelude.{◌≡◌, ℕ, ◌+◌, ◌-◌, ◌*◌, ◌/◌, ◌%◌, Bool, true, cond, ◌&&◌, ◌||◌, ◌==◌, List, [], ◌∷◌, ◌++◌, length, take, drop, Some, None, Option, nat_le, nat_lt}
 use Rattle.std.specs.Int.Digits.{number_from_digits}
 use Rattle.zemor.specs.Matrix.{matrix}
 use Rattle.zemor.specs.Bits.{digits_in}
-use Rattle.zemor.specs.Values.{row, Valid}
+use Rattle.zemor.specs.Values.{sl2, row, Valid}
 use Rattle.zemor.specs.declared.matrix.Entries.{Entries}
 use Rattle.zemor.specs.declared.matrix.Sl2.{Sl2}
 
@@ -39,6 +39,14 @@ abbrev pub unhex : List ℕ → List ℕ
 unhex [] = []
 unhex (c ∷ []) = []
 unhex (c ∷ (d ∷ cs)) = (16 * hex_value c + hex_value d) ∷ unhex cs
+
+-- the value that sixteen bytes write, if they write one
+abbrev pub read_bytes : List ℕ → Option Sl2
+read_bytes bs = sl2.check_row (entries_of bs)
+
+-- the value that 32 lower-case hexadecimal digits write, if the text is such digits and they write one
+abbrev pub read_hex : List ℕ → Option Sl2
+read_hex text = cond (length text == 32 && all_hex text) (read_bytes (unhex text)) None
 
 -- 32 lower-case hexadecimal digits, of entries below p with a × d - b × c equal to 1 modulo p
 abbrev pub WellFormed : List ℕ → Type 0

@@ -1,7 +1,8 @@
 //! The fingerprint of a text, and what is promised of it.
 ghost use Rattle.std.specs.Prelude.{◌≡◌, ℕ, true, List};
 ghost use Rattle.monoid.specs.Monoid.{fold_of, all_bytes};
-ghost use Rattle.zemor.specs.Values.{sl2};
+ghost use Rattle.zemor.specs.Bits.{product_of, text_bits};
+ghost use Rattle.zemor.specs.Values.{sl2, row};
 ghost use Rattle.zemor.specs.Slips.{Slip, Exactly, SlipsShow};
 ghost use Rattle.zemor.specs.Whole.{Bounded, Apart, Edge};
 ghost use Rattle.zemor.specs.Figures.{Figures};
@@ -9,12 +10,13 @@ ghost use Rattle.zemor.specs.Figures.{Figures};
 use crate::matrix::Sl2;
 use monoid::fold::fold;
 
-/// The fingerprint of a text: the product of its bits.
+/// The fingerprint of a text: the product of its bits modulo p, the highest bit of each byte first.
 ///
 /// A text that agrees with this one but for a stretch of at most 45 bits in each has the same fingerprint exactly
 /// where it is the same text.
 pub fn fingerprint(text: &[u8]) -> Sl2
     ensures value { result ≡ fold_of sl2 text.now }
+    ensures bits { row result ≡ product_of (text_bits text.now) }
     ensures slips { (other : List ℕ) → all_bytes other ≡ true → Slip text.now other → Exactly (result ≡ fold_of sl2 other) (text.now ≡ other) }
 {
     fold(text)

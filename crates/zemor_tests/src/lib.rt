@@ -4,6 +4,8 @@
 #[cfg(test)]
 mod tests {
     use monoid::Monoid;
+    use monoid::karp_rabin::{KarpRabin, KarpRabinRow, text};
+    use monoid::pair::Pair;
     use zemor::matrix::{Entries, Sl2};
     use zemor::peel::ops::peel;
     use zemor::text::fingerprint;
@@ -39,6 +41,69 @@ mod tests {
 
     fn read(text: &[u8]) -> Option<Entries> {
         Sl2::from_hex(text).map(|x| x.to_row())
+    }
+
+    // Whether h and w of Karp and Rabin's fingerprint of `bytes` are these, and v is the inverse of w.
+    fn rolls(bytes: &[u8], h: u32, w: u32) -> bool {
+        let row = text::fingerprint(bytes).to_row();
+        row.h == h && row.w == w && row.w as u64 * row.v as u64 % P as u64 == 1
+    }
+
+    #[test]
+    fn rolls_over_texts(rt: HostRuntime) {
+        assert!(rt; rolls(b"", 0, 1));
+        assert!(rt; rolls(&[0], 1, 16807));
+        assert!(rt; rolls(b"a", 98, 16807));
+        assert!(rt; rolls(b"ab", 98 * 16807 + 99, 282475249));
+        assert!(rt; rolls(b"ba", 1663991, 282475249));
+        assert!(rt; rolls(b"port=8080;\n", 445689513, 823564440));
+        assert!(rt;
+            rolls(
+                b"the quick brown fox jumps over the lazy dog",
+                1283233466,
+                1551901393,
+            )
+        );
+        assert!(rt; rolls(&[255; 1000], 1818098871, 522329230));
+    }
+
+    #[test]
+    fn turns_rows_of_no_value_into_the_empty_value(rt: HostRuntime) {
+        let good = fingerprint(b"ab").to_row();
+        let bad = Entries {
+            d: good.d + 1,
+            ..good
+        };
+        assert!(rt; Sl2::check_row(good).is_some_and(|x| x.to_row() == good));
+        assert!(rt; Sl2::check_row(bad).is_none());
+        assert_eq!(rt; Sl2::from_row(bad), Sl2::empty());
+        // of a pair, one such half is enough
+        let half = Pair {
+            first: good,
+            second: KarpRabinRow { h: P, w: 1, v: 1 },
+        };
+        assert!(rt; Pair::<Sl2, KarpRabin>::check_row(half).is_none());
+        let empty = Pair::<Sl2, KarpRabin>::from_row(half).to_row();
+        assert_eq!(rt; empty.first, Entries::IDENTITY);
+        assert_eq!(rt; (empty.second.h, empty.second.w), (0, 1));
+    }
+
+    // Rows that are no values' are joined by the same formula, whatever their numbers.
+    #[test]
+    fn joins_any_rows(rt: HostRuntime) {
+        let most = Entries {
+            a: u32::MAX,
+            b: u32::MAX,
+            c: u32::MAX,
+            d: u32::MAX,
+        };
+        let two = Entries {
+            a: 2,
+            b: 2,
+            c: 2,
+            d: 2,
+        };
+        assert_eq!(rt; Sl2::join_rows(most, most), two);
     }
 
     #[test]

@@ -1,10 +1,9 @@
-ghost use Rattle.monoid.specs.KarpRabinValues.{karp_rabin_model, inverse_of, row as row_of, Valid as ValidRow};
-ghost use Rattle.std.specs.Prelude.{◌≡◌, MatchOption};
+ghost use Rattle.monoid.specs.KarpRabinValues.{karp_rabin_model, inverse_of};
 ghost use Rattle.monoid.specs.KarpRabinLaws;
 
 use super::{KarpRabin, KarpRabinRow};
 use crate::{Group, Monoid};
-use residue::Residue;
+use residue::{Residue, multiply, multiply_add};
 
 // The base, and its inverse modulo p.
 const BASE: u32 = 16807;
@@ -50,8 +49,22 @@ impl Monoid for KarpRabin {
         }
     }
 
-    fn from_row(row: KarpRabinRow) -> KarpRabin {
-        checked(row).unwrap_or(KarpRabin::empty())
+    fn check_row(row: KarpRabinRow) -> Option<KarpRabin> {
+        let h = Residue::try_from(row.h).ok()?;
+        let w = Residue::try_from(row.w).ok()?;
+        let v = Residue::try_from(row.v).ok()?;
+        if w * v != Residue::ONE {
+            return None;
+        }
+        Some(KarpRabin { h, w, v })
+    }
+
+    fn join_rows(left: KarpRabinRow, right: KarpRabinRow) -> KarpRabinRow {
+        KarpRabinRow {
+            h: multiply_add(left.h, right.w, right.h).get(),
+            w: multiply(left.w, right.w).get(),
+            v: multiply(left.v, right.v).get(),
+        }
     }
 }
 
@@ -67,17 +80,4 @@ impl Group for KarpRabin {
             v: self.w,
         }
     }
-}
-
-/// The value of a row, if there is one. An `Option` and no `TryFrom`, whose error would say no more.
-fn checked(row: KarpRabinRow) -> Option<KarpRabin>
-    ensures { MatchOption result (¬ (ValidRow row)) (λ x. row_of x ≡ row) }
-{
-    let h = Residue::try_from(row.h).ok()?;
-    let w = Residue::try_from(row.w).ok()?;
-    let v = Residue::try_from(row.v).ok()?;
-    if w * v != Residue::ONE {
-        return None;
-    }
-    Some(KarpRabin { h, w, v })
 }

@@ -46,7 +46,11 @@ impl Monoid for LineColumn {
         self
     }
 
-    fn from_row(row: LineColumn) -> LineColumn {
-        row
+    fn check_row(row: LineColumn) -> Option<LineColumn> {
+        Some(row)
+    }
+
+    fn join_rows(left: LineColumn, right: LineColumn) -> LineColumn {
+        left.join(right)
     }
 }

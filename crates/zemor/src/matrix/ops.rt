@@ -1,5 +1,5 @@
 ghost use Rattle.std.specs.Prelude.{◌≡◌, MatchBool};
-ghost use Rattle.zemor.specs.Values.{sl2, inverse_of, Checked as Found};
+ghost use Rattle.zemor.specs.Values.{sl2, inverse_of};
 ghost use Rattle.zemor.specs.Laws;
 
 use super::{Entries, Sl2, stretch, table};
@@ -48,11 +48,18 @@ impl Monoid for Sl2 {
         }
     }
 
-    fn from_row(row: Entries) -> Sl2 {
-        Sl2::from_entries(row).unwrap_or(Sl2::empty())
+    fn check_row(row: Entries) -> Option<Sl2> {
+        let a = Residue::try_from(row.a).ok()?;
+        let b = Residue::try_from(row.b).ok()?;
+        let c = Residue::try_from(row.c).ok()?;
+        let d = Residue::try_from(row.d).ok()?;
+        if a * d != b.multiply_add(c, Residue::ONE) {
+            return None;
+        }
+        Some(Sl2 { a, b, c, d })
     }
 
-    // Nothing is tested, and each entry is reduced once: of values' rows this is the row of `join`.
+    // Nothing is tested, and each entry is reduced once.
     fn join_rows(left: Entries, right: Entries) -> Entries {
         Entries {
             a: dot_any(left.a, left.b, right.a, right.c).get(),
@@ -79,20 +86,6 @@ impl Group for Sl2 {
 }
 
 impl Sl2 {
-    /// The value with these entries, if there is one. An `Option` and no `TryFrom`, whose error would say no more.
-    pub fn from_entries(e: Entries) -> Option<Sl2>
-        ensures { Found e result }
-    {
-        let a = Residue::try_from(e.a).ok()?;
-        let b = Residue::try_from(e.b).ok()?;
-        let c = Residue::try_from(e.c).ok()?;
-        let d = Residue::try_from(e.d).ok()?;
-        if a * d != b.multiply_add(c, Residue::ONE) {
-            return None;
-        }
-        Some(Sl2 { a, b, c, d })
-    }
-
     /// Whether two values are equal. The contract says what `==` does not: equal values are the same value.
     pub fn equals(self, other: Sl2) -> bool
         ensures { MatchBool result (self ≡ other) (¬ (self ≡ other)) }

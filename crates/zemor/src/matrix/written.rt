@@ -4,7 +4,7 @@ ghost use Rattle.std.specs.Char.{is_ascii_uppercase};
 ghost use Rattle.std.specs.List.{list_any};
 ghost use Rattle.monoid.specs.Monoid.{all_bytes};
 ghost use Rattle.zemor.specs.Values.{row};
-ghost use Rattle.zemor.specs.Written.{bytes_of, entries_of, hex, unhex, ReadBytes, Decoded, ReadHex, WellFormed};
+ghost use Rattle.zemor.specs.Written.{bytes_of, entries_of, hex, read_bytes, read_hex, ReadBytes, Decoded, ReadHex, WellFormed};
 
 use super::{Entries, Sl2};
 use hex::FromHex;
@@ -17,7 +17,7 @@ impl Sl2 {
     /// Sixteen bytes: a, b, c and d, each as four bytes, the highest first.
     pub fn to_bytes(self) -> [u8; 16]
         ensures value { result ≡ bytes_of (row self) }
-        ensures back { entries_of result ≡ row self }
+        ensures back { read_bytes result ≡ Some self }
     {
         let Entries { a, b, c, d } = self.to_row();
         let [a0, a1, a2, a3] = a.to_be_bytes();
@@ -31,15 +31,16 @@ impl Sl2 {
 
     /// The value that sixteen bytes write, or none where they write no value.
     pub fn from_bytes(bytes: [u8; 16]) -> Option<Sl2>
-        ensures { ReadBytes bytes result }
+        ensures value { result ≡ read_bytes bytes }
+        ensures again { ReadBytes bytes result }
     {
-        Sl2::from_entries(read_entries(&bytes))
+        Sl2::check_row(read_entries(&bytes))
     }
 
     /// The sixteen bytes as 32 lower-case hexadecimal digits.
     pub fn to_hex(self) -> [u8; 32]
         ensures value { result ≡ hex (bytes_of (row self)) }
-        ensures back { WellFormed result × (entries_of (unhex result) ≡ row self) }
+        ensures back { WellFormed result × (read_hex result ≡ Some self) }
     {
         let mut text = [0; 32];
         hex::encode_to_slice(self.to_bytes(), &mut text).unwrap();
@@ -48,7 +49,8 @@ impl Sl2 {
 
     /// The value that a text of 32 lower-case hexadecimal digits writes, or none where the text is not well formed.
     pub fn from_hex(text: &[u8]) -> Option<Sl2>
-        ensures { ReadHex text.now result }
+        ensures value { result ≡ read_hex text.now }
+        ensures again { ReadHex text.now result }
     {
         Sl2::from_bytes(decode(text)?)
     }

@@ -14,7 +14,7 @@ returns-in_err-whole c =
     let none = c.in_err-whole.ensures in
     rw (p.1, p.2, refused_as c.from_hex.result none.value)
     (refused_form (length c.args.out.now) c.args.out.now c.args.digits.now c.args.front c.args.back c.if-out-lt5.false
-    (subst (ReadHex c.args.digits.now) none.ok_part c.from_hex.ensures))
+    (subst (ReadHex c.args.digits.now) none.ok_part c.from_hex.ensures.again))
 
 pub returns-in_err-window : goal.returns-in_err-window
 returns-in_err-window c =
@@ -23,7 +23,7 @@ returns-in_err-window c =
     let none = c.in_err-window.ensures in
     rw (p.1, p.2, refused_as c.read_back.result none.value)
     (refused_window (length c.args.out.now) c.args.out.now c.args.digits.now c.args.front c.args.back whole c.if-out-lt5.false
-    (subst (ReadHex c.args.digits.now) c.in_ok-whole.ensures.ok_part c.from_hex.ensures)
+    (subst (ReadHex c.args.digits.now) c.in_ok-whole.ensures.ok_part c.from_hex.ensures.again)
     (subst (ReadBack c.args.front c.args.back whole) none.ok_part c.read_back.ensures))
 
 pub returns : goal.returns
@@ -34,6 +34,6 @@ returns c =
     let text = c.as_slice.ensures in
     let long = c.write_start.ensures.value ∙ ap length text in
     told (length old) old c.args.digits.now c.args.front c.args.back whole c.if-out-lt5.false
-    (subst (ReadHex c.args.digits.now) c.in_ok-whole.ensures.ok_part c.from_hex.ensures) window c.write_start.result c.write_start.new.out
+    (subst (ReadHex c.args.digits.now) c.in_ok-whole.ensures.ok_part c.from_hex.ensures.again) window c.write_start.result c.write_start.new.out
     (subst (ReadBack c.args.front c.args.back whole) c.in_ok-window.ensures.ok_part c.read_back.ensures) long
     (c.write_start.ensures.after ∙ ap (λ t. t ++ drop (length t) old) text ∙ ap (λ i. window_text window ++ drop i old) (sym long))

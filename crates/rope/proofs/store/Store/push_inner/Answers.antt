@@ -1,4 +1,4 @@
-use Rattle.std.proofs.Common.{sym, arith}
+use Rattle.std.proofs.Common.{◌∙◌, arith}
 use Rattle.monoid.specs.Monoid.{fold_of}
 use Rattle.rope.specs.Tree.{text}
 use Rattle.rope.specs.Memory.{tree_of}
@@ -20,4 +20,5 @@ push-requires g c =
     let s = c.args.self.now in
     inner_fine m g.met.M.Monoid.lawful s c.args.left c.args.right c.requires
     c.record-l.result c.record-r.result c.max.result c.join_rows-row.result c.record-l.ensures c.record-r.ensures c.max.ensures
-    (c.join_rows-row.ensures (fold_of m (text (tree_of s c.args.left))) (fold_of m (text (tree_of s c.args.right))) (sym c.record-l.ensures.row) (sym c.record-r.ensures.row))
+    (c.join_rows-row.ensures ∙ (λ i. m.joined_rows (c.record-l.ensures.row i) (c.record-r.ensures.row i))
+    ∙ g.met.M.Monoid.lawful.rows (fold_of m (text (tree_of s c.args.left))) (fold_of m (text (tree_of s c.args.right))))

@@ -1,7 +1,10 @@
-use Rattle.zemor.proofs.Writing.{read_bytes}
+use Rattle.std.proofs.Common.{ap, ◌∙◌}
+use Rattle.zemor.specs.Values.{sl2}
+use Rattle.zemor.proofs.Writing.{bytes_again}
 use Rattle.zemor.proofs.matrix.Sl2.from_bytes.Goals as goal
 
 pub returns : goal.returns
 returns c =
     let read = c.read_entries.ensures in
-    read_bytes c.args.bytes c.read_entries.result c.from_entries.result read.value read.typed.0 read.typed.1 c.from_entries.ensures
+    let value = c.check_row.ensures ∙ ap sl2.check_row read.value in
+    record { value = value; again = bytes_again c.args.bytes c.check_row.result read.typed.0 read.typed.1 value }
