@@ -3,3 +3,4 @@ pub mod Parts
 pub mod Calling
 pub mod Telling
 pub mod Turning
+pub mod Holding

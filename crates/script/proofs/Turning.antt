@@ -1,6 +1,5 @@
 -- Turns of a script.
-use Rattle.std.proofs.Common.{◌≡◌, ℕ, ◌<◌, List, [], ◌++◌, length, take, drop, Some, None, Ok, Err, Option, Result, sym, ap, ◌∙◌, subst, append_assoc, append-nil, arith}
-use Rattle.std.specs.Io.KnownBytes.{Appends}
+use Rattle.std.proofs.Common.{◌≡◌, ℕ, ◌<◌, ◌≤◌, List, ◌++◌, length, take, drop, Some, Ok, Err, Result, sym, ap, ◌∙◌, subst, arith}
 use Rattle.std.proofs.lemmas.List.{take_at}
 use Rattle.decimal.specs.Decimal.{Copied}
 use Rattle.netstring.proofs.Puts.{long}
@@ -8,8 +7,10 @@ use Rattle.shelf_view.specs.declared.refusal.Refusal.{Refusal}
 use Rattle.text_shelf.specs.declared.shelf.Shelf.{Shelf}
 use Rattle.script.specs.Calls.{content, Reads, Misread}
 use Rattle.script.specs.Calls.Misread.{no_netstring, no_call}
-use Rattle.script.specs.Answers.{Says, Wrote, Turn, answer}
+use Rattle.script.specs.Answers.{Says, Wrote, Turn, Turns, TurnsIn, answer}
 use Rattle.script.specs.Answers.Turn.{over, answered}
+use Rattle.script.specs.Answers.Turns.{more}
+use Rattle.script.specs.Answers.TurnsIn.{last}
 use Rattle.script.specs.declared.call.Call.{Call}
 use Rattle.script.proofs.Parts.{spans}
 
@@ -37,16 +38,24 @@ goes_on script i s a j t h (answered (Err e) said l r y) = misses e j r
     misses e j (no_netstring x) = h
     misses e j (no_call {c} r x) = omega (arith, spans script c i j r, long c)
 
+-- and none beyond the script's end
+pub ends_within : {V R : Type 0} {kind : _} (script : List ℕ) (i : ℕ) (s : Shelf V R kind) (a : List ℕ) (j : ℕ) (t : Shelf V R kind) → Turn script i s a j t → j ≤ length script
+ends_within script i s a j t (over k) = omega arith
+ends_within script i s a j t (answered (Ok k) said l r y) = r.stands.within
+ends_within script i s a j t (answered (Err e) said l r y) = misread e j r
+  where
+    misread : (e : Refusal) (j : ℕ) → Misread script i e j → j ≤ length script
+    misread e j (no_netstring x) = omega arith
+    misread e j (no_call r x) = r.within
+
+-- turns that end before the script does were all answered
+all_but_one : {V R : Type 0} {kind : _} {script : List ℕ} {i j k : ℕ} {s t u : Shelf V R kind} {before a : List ℕ} → Turns script i s before j t → Turn script j t a k u → k < length script → Turns script i s (before ++ a) k u
+all_but_one before (over beyond) h = absurd (omega arith)
+all_but_one before (answered call said l r y) h = more before l (answered call said l r y)
+
+pub all_turns : {V R : Type 0} {kind : _} {n : ℕ} {script : List ℕ} {i : ℕ} {s : Shelf V R kind} {a : List ℕ} {k : ℕ} {t : Shelf V R kind} → TurnsIn n script i s a k t → k < length script → Turns script i s a k t
+all_turns (last before room turn) h = all_but_one before turn h
+
 -- what was written, of the buffer that it lies in
 pub written_part : (a was is : List ℕ) (n : ℕ) → Copied a was (Some n) is → take n is ≡ a
 written_part a was is n w = ap (take n) w.2 ∙ take_at a (drop n was) n (sym w.0)
-
-pub appends_none : (x : Option (List ℕ)) → Appends x x []
-appends_none None = tt
-appends_none (Some xs) = sym (append-nil xs)
-
-pub appends_more : (x y z : Option (List ℕ)) (a b : List ℕ) → Appends x y a → Appends y z b → Appends x z (a ++ b)
-appends_more None y z a b h k = tt
-appends_more (Some xs) None z a b h k = absurd h
-appends_more (Some xs) (Some ys) None a b h k = absurd k
-appends_more (Some xs) (Some ys) (Some zs) a b h k = k ∙ ap (λ l. l ++ b) h ∙ append_assoc xs a b

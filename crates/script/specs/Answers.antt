@@ -1,5 +1,5 @@
 -- What a script's calls answer, and what they do to a marked shelf.
-use Rattle.std.specs.Prelude.{◌≡◌, ℕ, ◌<◌, ◌≤◌, List, [], ◌∷◌, ◌++◌, ◌⊎◌, ◌+◌, length, decimal, Some, None, Ok, Err, Option, Result, nat_lt, codes}
+use Rattle.std.specs.Prelude.{◌≡◌, ℕ, ◌<◌, ◌≤◌, List, [], ◌∷◌, ◌++◌, ◌⊎◌, ◌+◌, length, take, decimal, Some, None, Ok, Err, Option, Result, nat_lt, codes}
 use Rattle.std.specs.Io.KnownBytes.{Appends}
 use Rattle.std.specs.Result.{result_map_both}
 use Rattle.decimal.specs.Decimal.{Copied}
@@ -87,21 +87,25 @@ abbrev pub Ran : {V R : Type 0} {kind : _} → List ℕ → ℕ → Shelf V R ki
 Ran script i s old t new (Ok r) = (4102 ≤ length old) × ((a : List ℕ) × (Turn script i s a r.next t × Copied a old (Some r.len) new))
 Ran script i s old t new (Err e) = (length old < 4102) × (e ≡ SmallBuffer) × (t ≡ s) × (new ≡ old)
 
--- turns that each began with 4,102 bytes left of n: the last one did, and those before it had more
+-- turns that each began with 4,102 bytes left of n: the last one did, and those before it had more. From the script's end
+-- or beyond there is the one that answers nothing.
 pub data TurnsIn {V R : Type 0} {kind : _} (n : ℕ) (script : List ℕ) (i : ℕ) (s : Shelf V R kind) : List ℕ → ℕ → Shelf V R kind → Type 0 where
-  none : TurnsIn n script i s [] i s
-  last : {a before : List ℕ} {j k : ℕ} {t u : Shelf V R kind} → Turns script i s before j t → j < length script → length before + 4102 ≤ n → Turn script j t a k u → TurnsIn n script i s (before ++ a) k u
+  last : {a before : List ℕ} {j k : ℕ} {t u : Shelf V R kind} → Turns script i s before j t → length before + 4102 ≤ n → Turn script j t a k u → TurnsIn n script i s (before ++ a) k u
 
 -- what `run_into` does: turns up to the script's end, or until fewer than 4,102 bytes are left, and none beyond; all their
 -- answers stand at the buffer's start, with their length. It refuses as `run` does.
 abbrev pub RanInto : {V R : Type 0} {kind : _} → List ℕ → ℕ → Shelf V R kind → List ℕ → Shelf V R kind → List ℕ → Result Answered Refusal → Type 0
 RanInto script i s old t new (Ok r) =
-    (4102 ≤ length old) × ((length script ≤ r.next) ⊎ (length old < r.len + 4102))
+    (4102 ≤ length old) × ((r.next ≡ length script) ⊎ (length old < r.len + 4102))
     × ((all : List ℕ) × (TurnsIn (length old) script i s all r.next t × Copied all old (Some r.len) new))
 RanInto script i s old t new (Err e) = (length old < 4102) × (e ≡ SmallBuffer) × (t ≡ s) × (new ≡ old)
 
+-- turns up to one whose answer is not written whole: what is written is the answers before it, and a front of its own
+pub data BrokenOff {V R : Type 0} {kind : _} (script : List ℕ) (i : ℕ) (s : Shelf V R kind) : List ℕ → Shelf V R kind → Type 0 where
+  within : {a before : List ℕ} {j k n : ℕ} {t u : Shelf V R kind} → Turns script i s before j t → j < length script → Turn script j t a k u → n < length a → BrokenOff script i s (before ++ take n a) u
+
 -- what `run_all` does, for a writer that held the bytes `old` and holds the bytes `new`, where it tells them: turns up to
--- the script's end, and all their answers are written. Where a write fails, some turns were run.
+-- the script's end, and all their answers are written; with an error, turns up to one whose answer is not written whole
 abbrev pub RanAll : {V R : Type 0} {kind : _} {E : Type 0} → List ℕ → ℕ → Shelf V R kind → Option (List ℕ) → Shelf V R kind → Option (List ℕ) → Result (Unit {0}) E → Type 0
 RanAll script i s old t new (Ok u) = (all : List ℕ) × ((k : ℕ) × (Turns script i s all k t × (length script ≤ k) × Appends old new all))
-RanAll script i s old t new (Err e) = (all : List ℕ) × ((k : ℕ) × Turns script i s all k t)
+RanAll script i s old t new (Err e) = (written : List ℕ) × (BrokenOff script i s written t × Appends old new written)

@@ -5,3 +5,4 @@ pub mod answer;
 pub mod call;
 pub mod read;
 pub mod run;
+mod writer;

@@ -1,5 +1,6 @@
 //! Running a script on a marked shelf.
-ghost use Rattle.std.specs.Prelude.{◌≡◌, ◌≤◌, ◌<◌, List, ℕ, Result, Some, MatchResult, length, decimal};
+ghost use Rattle.std.specs.Prelude.{◌≡◌, ◌≢◌, ◌≤◌, ◌<◌, List, ℕ, Result, Some, IfErr, MatchResult, length, decimal};
+ghost use Rattle.std.specs.IoError.{error_kind};
 ghost use Rattle.decimal.specs.Decimal.{Copied};
 ghost use Rattle.netstring.specs.Netstring.{netstring};
 ghost use Rattle.text_shelf.specs.Shelves.{parts, strings};
@@ -13,11 +14,12 @@ use crate::answer::{
 };
 use crate::call::Call;
 use crate::read::{Reading, read};
+use crate::writer::write_whole;
 use monoid::line_column::LineColumn;
 use monoid::pair::Pair;
 use shelf_view::refusal::Refusal;
 use std::io;
-use std::io::Write;
+use std::io::{ErrorKind, Write};
 use text_shelf::shelf::Shelf;
 use zemor::matrix::Sl2;
 
@@ -145,7 +147,8 @@ pub fn run<'b, 'a>(
 }
 
 /// Runs a script call by call from the place `at` on, while `MOST_ANSWER` bytes are left in `out`. Writes the answers at
-/// its start, and answers how many bytes they are, and the place behind the last call that was run.
+/// its start, and answers how many bytes they are, and the place behind the last call that was run; from the script's end or
+/// beyond, 0 and the script's end.
 pub fn run_into<'b, 'a>(
     shelf: &mut MarkedShelf<'b, 'a>,
     script: &[u8],
@@ -155,7 +158,7 @@ pub fn run_into<'b, 'a>(
     ensures { RanInto script.now at shelf.old out.old shelf.new out.new result }
 {
     fits(out)?;
-    let mut all = Answered { len: 0, next: at };
+    let mut all = turn(shelf, script, at, out);
     while all.next < script.len() && out.len() - all.len >= MOST_ANSWER {
         let Answered { len, next } = turn(shelf, script, all.next, &mut out[all.len..]);
         all = Answered {
@@ -166,20 +169,23 @@ pub fn run_into<'b, 'a>(
     Ok(all)
 }
 
-/// Runs a script call by call from the place `at` on, and writes each answer as it comes.
+/// Runs a script call by call from the place `at` on, and writes each answer as it comes. Where a write fails, it stops
+/// with that error: the last call was run, and not all of its answer written. An interrupted write is tried again; a writer
+/// that takes nothing fails with `WriteZero`.
 pub fn run_all<'b, 'a, W: Write>(
     shelf: &mut MarkedShelf<'b, 'a>,
     script: &[u8],
     at: usize,
     out: &mut W,
 ) -> io::Result<()>
-    ensures { RanAll script.now at shelf.old (W.Write.contents out.old) shelf.new (W.Write.contents out.new) result }
+    ensures ran { RanAll script.now at shelf.old (W.Write.contents out.old) shelf.new (W.Write.contents out.new) result }
+    ensures retried { IfErr result (λ e. error_kind e ≢ ErrorKind.Interrupted) }
 {
     let mut answer = [0; MOST_ANSWER];
     let mut at = at;
     while at < script.len() {
         let Answered { len, next } = turn(shelf, script, at, &mut answer);
-        out.write_all(&answer[..len])?;
+        write_whole(out, &answer[..len])?;
         at = next;
     }
     Ok(())

@@ -1,23 +1,26 @@
 //! A script from a reader, its answers to a writer.
-ghost use Rattle.std.specs.Prelude.{OnOk, IfSome, take};
-ghost use Rattle.script.specs.Answers.{RanAll};
+ghost use Rattle.std.specs.Prelude.{◌≢◌, IfErr};
+ghost use Rattle.std.specs.IoError.{error_kind};
+ghost use Rattle.shelf.specs.Serving.{Served};
 
 use script::run::{MarkedShelf, run_all};
 use std::alloc::Global;
 use std::io;
-use std::io::{Read, Write};
+use std::io::{ErrorKind, Read, Write};
 
 /// So many bytes of a script are read.
 const MOST_SCRIPT: u64 = 16384;
 
-/// Runs the script that `input` gives, and writes the answers to `out`.
+/// Runs the script that `input` gives, its first 16,384 bytes, and writes the answers to `out`. Where it cannot be read, or there is no memory to
+/// hold it, nothing is run; where a write fails, the last call was run, and not all of its answer written.
 pub fn serve<'b, 'a, R: Read + Drop, W: Write>(
     heap: Global,
     input: R,
     shelf: &mut MarkedShelf<'b, 'a>,
     out: &mut W,
 ) -> io::Result<()>
-    ensures { OnOk result (IfSome (R.Read.remaining input) (λ bytes. RanAll (take 16384 bytes) 0 shelf.old (W.Write.contents out.old) shelf.new (W.Write.contents out.new) result)) }
+    ensures served { Served W.Write.contents (R.Read.remaining input) shelf.old out.old shelf.new out.new result }
+    ensures retried { IfErr result (λ e. error_kind e ≢ ErrorKind.Interrupted) }
 {
     let mut script = Vec::new(heap);
     input.take(MOST_SCRIPT).read_to_end(&mut script)?;

@@ -1,11 +1,11 @@
 -- A script run on a fresh shelf.
-use Rattle.std.proofs.Common.{◌≡◌, ℕ, ◌≤◌, List, length, Ok, Err, Result, arith}
+use Rattle.std.proofs.Common.{ℕ, ◌≤◌, List, length, Ok, Err, Result, arith}
 use Rattle.std.proofs.lemmas.Bool.Decides.{nat_tests}
 use Rattle.std.proofs.lemmas.Grind.{common_steps}
 use Rattle.shelf_view.specs.declared.refusal.Refusal.{Refusal}
 use Rattle.script.specs.Answers.{RanInto}
 use Rattle.script.specs.declared.run.Answered.{Answered}
-use Rattle.vault.specs.Boundary.{of_script, Starts, Runs}
+use Rattle.vault.specs.Boundary.{Starts, Runs}
 use Rattle.vault.specs.declared.calls.Desk.{Desk}
 
 pub runs : (script old new : List ℕ) (fresh left : Desk) (r : Result Answered Refusal) → length script ≤ 16384 → Starts fresh.shelf → RanInto script 0 fresh.shelf old left.shelf new r → Runs script old new r

@@ -1,5 +1,5 @@
 -- What the calls from C answer.
-use Rattle.std.specs.Prelude.{◌≡◌, ℕ, ◌+◌, ◌<◌, ◌≤◌, List, [], ◌∷◌, ◌⊎◌, length, Some, None, Ok, Err, Option, Result, nat_lt}
+use Rattle.std.specs.Prelude.{◌≡◌, ℕ, ◌+◌, ◌<◌, List, [], ◌∷◌, ◌⊎◌, length, Some, None, Ok, Err, Option, Result, nat_lt}
 use Rattle.decimal.specs.Decimal.{Copied}
 use Rattle.rope.specs.Arena.{Root}
 use Rattle.rope.specs.declared.record.Record.{Record}
@@ -67,7 +67,7 @@ pub record Ran (script old new : List ℕ) (r : Answered) : Type 0 where
   pub answers : List ℕ
   pub starts : Starts fresh.shelf
   pub turns : TurnsIn (length old) script 0 fresh.shelf answers r.next left.shelf
-  pub ends : (length script ≤ r.next) ⊎ (length old < r.len + 4102)
+  pub ends : (r.next ≡ length script) ⊎ (length old < r.len + 4102)
   pub written : Copied answers old (Some r.len) new
 
 -- or a refusal, which leaves the buffer as it was

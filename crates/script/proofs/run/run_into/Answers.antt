@@ -1,13 +1,18 @@
-use Rattle.std.proofs.Common.{[], ◌++◌, ◌-◌, ◌≡◌, ◌≤◌, ◌+◌, length, take, drop, refl, ap, arith, length-append}
+use Rattle.std.proofs.Common.{◌++◌, ◌-◌, ◌≡◌, ◌≤◌, ◌+◌, length, drop, ap, arith, length-append}
 use Rattle.std.proofs.lemmas.List.{length-take, length-drop}
-use Rattle.script.specs.Answers.Turns.{none, more}
-use Rattle.script.specs.Answers.TurnsIn.{none as none_in, last}
-use Rattle.script.proofs.Turning.{goes_on}
-use Rattle.script.proofs.Writing.{start, lent}
+use Rattle.script.specs.Answers.Turns.{none}
+use Rattle.script.specs.Answers.TurnsIn.{last}
+use Rattle.script.proofs.Turning.{goes_on, ends_within, all_turns}
+use Rattle.script.proofs.Writing.{lent}
 use Rattle.script.proofs.run.run_into.Goals as goal
 
 pub loop-all-init : goal.loop-all-init
-loop-all-init c = record { so_far = ([], (none, none_in, start c.args.out.now)) }
+loop-all-init c =
+    let turn = c.turn-all.ensures in
+    record {
+      so_far = (turn.0, (last none (omega arith) turn.1.0, turn.1.1));
+      within = ends_within c.args.script.now c.args.at c.args.shelf.now turn.0 c.turn-all.result.next c.turn-all.new.shelf turn.1.0;
+    }
 
 pub loop-all-smaller : goal.loop-all-smaller
 loop-all-smaller c =
@@ -23,13 +28,14 @@ loop-all-preserved c =
     let at = c.loop-all.all.len in
     let n = c.turn-len.result.len in
     let was = c.args.out.now in
-    let held = so_far.1.2 in
+    let held = so_far.1.1 in
     let same : length b ≡ length was = omega (arith, held.0, held.1, ap length held.2, length-append so_far.0 (drop at was), length-drop at was) in
     let left : length so_far.0 + 4102 ≤ length was = omega (arith, c.if-out-all-ge-MOST_ANSWER.true, held.0, same) in
     let room : at + n ≤ length b = omega (arith, wrote.1, held.1, same, length-take (length b - at) (drop at b), length-drop at b) in
     record {
       so_far = (
         so_far.0 ++ turn.0,
-        (more so_far.1.0 c.loop-all-test.true turn.1.0, last so_far.1.0 c.loop-all-test.true left turn.1.0, lent so_far.0 was b c.turn-len.new.out turn.0 at n held room wrote.0 wrote.2),
+        (last (all_turns so_far.1.0 c.loop-all-test.true) left turn.1.0, lent so_far.0 was b c.turn-len.new.out turn.0 at n held room wrote.0 wrote.2),
       );
+      within = ends_within c.args.script.now c.loop-all.all.next c.loop-all.shelf turn.0 c.turn-len.result.next c.turn-len.new.shelf turn.1.0;
     }
