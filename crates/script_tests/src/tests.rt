@@ -2,11 +2,11 @@
 use monoid::Monoid;
 use rope::record::Record;
 use script::answer::MOST_ANSWER;
-use script::run::{Answered, Marked, run, run_all};
+use script::run::{Answered, Marked, run, run_all, run_into};
 use shelf_view::refusal::Refusal;
 use std::alloc::Global;
 use std::io;
-use std::io::Write;
+use std::io::{ErrorKind, Write};
 use text_shelf::shelf::Shelf;
 
 /// A script, the place to run it from, and its answers.
@@ -255,4 +255,94 @@ fn answers_need_a_buffer(rt: HostRuntime) {
     let over = run(&mut shelf, script, 15, &mut out);
     assert!(&rt; matches!(over, Ok(Answered { len: 0, next: 15 })));
     assert_eq!(&rt; &out[..6], b"1:1,..".as_slice());
+}
+
+// From the script's end or beyond, `run_into` answers nothing and tells the end.
+#[test]
+fn runs_into_a_buffer_end_with_the_script(rt: HostRuntime) {
+    let mut added = [0; 8];
+    let mut records = [Record::blank(Marked::empty().to_row()); 8];
+    let mut places = [None; 1];
+    let mut shelf = Shelf::new(&[], &mut added, &mut records, &mut places, 7);
+    let mut out = [b'.'; MOST_ANSWER];
+    let script = b"11:3:put,2:ab,,";
+    for at in [15, 16, usize::MAX] {
+        let over = run_into(&mut shelf, script, at, &mut out);
+        assert!(&rt; matches!(over, Ok(Answered { len: 0, next: 15 })));
+        assert_eq!(&rt; &out[..6], b"......".as_slice());
+    }
+    let answered = run_into(&mut shelf, script, 0, &mut out);
+    assert!(&rt; matches!(answered, Ok(Answered { len: 4, next: 15 })));
+    assert_eq!(&rt; &out[..6], b"1:1,..".as_slice());
+}
+
+/// A writer that takes at most `most` bytes at a time, and `room` in all. Each second write is interrupted. When it is full,
+/// it fails with `full`, or takes nothing where that is `None`.
+#[derive(Drop)]
+struct Narrow {
+    held: Vec<u8>,
+    room: usize,
+    most: usize,
+    full: Option<ErrorKind>,
+    interrupted: bool,
+}
+
+impl Write for Narrow {
+    fn write(&mut self, buf: &[u8]) -> io::Result<usize> {
+        self.interrupted = !self.interrupted;
+        if self.interrupted {
+            return Err(io::Error::from(ErrorKind::Interrupted));
+        }
+        let free = self.room.saturating_sub(self.held.len());
+        if free == 0 {
+            return match self.full {
+                Some(kind) => Err(io::Error::from(kind)),
+                None => Ok(0),
+            };
+        }
+        let n = buf.len().min(free).min(self.most);
+        self.held.extend_from_slice(&buf[..n])?;
+        Ok(n)
+    }
+
+    fn flush(&mut self) -> io::Result<()> {
+        Ok(())
+    }
+}
+
+// Four answers of four bytes each: a writer with less room holds that front of them. The call whose answer is cut was run,
+// and none behind it.
+#[test]
+fn a_failing_writer_holds_a_front_of_the_answers(rt: HostRuntime) {
+    let script = b"9:3:put,0:,,9:3:put,0:,,9:3:put,0:,,9:3:put,0:,,";
+    let all = b"1:1,1:2,1:3,1:4,";
+    for room in 0..18usize {
+        for most in [1, 3, 7] {
+            for full in [Some(ErrorKind::BrokenPipe), None] {
+                let mut added = [0; 1];
+                let mut records = [Record::blank(Marked::empty().to_row()); 1];
+                let mut places = [None; 4];
+                let mut shelf = Shelf::new(&[], &mut added, &mut records, &mut places, 7);
+                let mut out = Narrow {
+                    held: Vec::new(rt.alloc()),
+                    room,
+                    most,
+                    full,
+                    interrupted: false,
+                };
+                let ended = run_all(&mut shelf, script, 0, &mut out);
+                assert_eq!(&rt; out.held.as_slice(), &all[..room.min(16)]);
+                match ended {
+                    Ok(()) => assert!(&rt; room >= 16),
+                    Err(e) => {
+                        assert!(&rt; room < 16);
+                        assert!(&rt; e.kind() == full.unwrap_or(ErrorKind::WriteZero));
+                    }
+                }
+                let last = (room / 4 + 1).min(4) as u32;
+                assert!(&rt; shelf.view().len(last).is_ok());
+                assert!(&rt; matches!(shelf.view().len(last + 1), Err(Refusal::NoDocument)));
+            }
+        }
+    }
 }
