@@ -11,8 +11,9 @@ use std::io::{ErrorKind, Read, Write};
 /// So many bytes of a script are read.
 const MOST_SCRIPT: u64 = 16384;
 
-/// Runs the script that `input` gives, its first 16,384 bytes, and writes the answers to `out`. Where it cannot be read, or there is no memory to
-/// hold it, nothing is run; where a write fails, the last call was run, and not all of its answer written.
+/// Runs the script that `input` gives, its first 16,384 bytes, and writes the answers to `out`. Where it cannot be read, or
+/// there is no memory to hold it, nothing is run; where a write fails, the last call was run, and not all of its answer
+/// written.
 pub fn serve<'b, 'a, R: Read + Drop, W: Write>(
     heap: Global,
     input: R,
