@@ -90,7 +90,8 @@ fn number_of<T: Copy>(answer: Result<T, Refusal>) -> u8 {
     }
 }
 
-/// Asks about what is not there: parts, bytes, and documents. A refused copy writes nothing.
+/// Asks about what is not there: parts, bytes, and documents. A refused copy writes nothing, and one for which there is just
+/// room fills the buffer.
 fn ask_in_vain<'v, M: Monoid>(rt: &impl Abort, view: View<'v, M>) {
     let mut out = [9; 4];
     for (d, a, b, number) in &NO_PARTS {
@@ -99,6 +100,8 @@ fn ask_in_vain<'v, M: Monoid>(rt: &impl Abort, view: View<'v, M>) {
     }
     assert_eq!(rt; number_of(view.copy(7, 0, 5, &mut out)), 8);
     assert_eq!(rt; out, [9; 4]);
+    assert_eq!(rt; view.copy(1, 0, 4, &mut out), Ok(4));
+    assert_eq!(rt; out, *b"mirr");
     assert_eq!(rt; number_of(view.byte(7, 917)), 6);
     assert_eq!(rt; number_of(view.byte(12, 0)), 5);
     assert_eq!(rt; number_of(view.len(12)), 5);

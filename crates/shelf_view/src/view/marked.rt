@@ -8,15 +8,14 @@ ghost use Rattle.shelf_view.specs.Marked.{fingerprint, Compares, Around, in_part
 
 use super::View;
 use super::part::Part;
+use crate::marked::Marked;
 use crate::refusal::Refusal;
 use crate::sameness::Sameness;
 use crate::window::read_between;
-use monoid::line_column::LineColumn;
-use monoid::pair::Pair;
 use rope_read::text::Text;
 use zemor::matrix::Sl2;
 
-impl<'v> View<'v, Pair<Sl2, LineColumn>> {
+impl<'v> View<'v, Marked> {
     /// The fingerprint of the `n` bytes from `a` in document `d`, where they are a lawful part.
     fn mark(&self, d: u32, a: usize, n: usize) -> Result<Sl2, Refusal>
         ensures { Answers (of_part (strings self.now) d a (a + n)) (λ x. x ≡ fingerprint (between a (a + n) (text_at (strings self.now) d))) result }

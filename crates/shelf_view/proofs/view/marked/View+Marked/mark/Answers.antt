@@ -2,7 +2,7 @@ use Rattle.std.proofs.Common.{◌+◌}
 use Rattle.std.specs.List.{between}
 use Rattle.shelf_view.specs.State.{strings, text_at}
 use Rattle.shelf_view.proofs.Marking.{first_half}
-use Rattle.shelf_view.proofs.view.marked.View+Pair+Sl2+LineColumn.mark.Goals as goal
+use Rattle.shelf_view.proofs.view.marked.View+Marked.mark.Goals as goal
 
 pub returns : goal.returns
 returns c =

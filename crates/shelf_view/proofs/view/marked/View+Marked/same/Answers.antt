@@ -1,7 +1,7 @@
 use Rattle.std.proofs.Common.{sym, ◌∙◌}
 use Rattle.shelf_view.specs.State.{shown, strings}
 use Rattle.shelf_view.proofs.Marking.{same_none, part_equal}
-use Rattle.shelf_view.proofs.view.marked.View+Pair+Sl2+LineColumn.same.Goals as goal
+use Rattle.shelf_view.proofs.view.marked.View+Marked.same.Goals as goal
 
 pub returns-then-n-le5 : goal.returns-then-n-le5
 returns-then-n-le5 c =

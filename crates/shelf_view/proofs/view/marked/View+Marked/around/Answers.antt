@@ -2,7 +2,7 @@ use Rattle.std.proofs.Common.{refl}
 use Rattle.rope_read.specs.Texts.{bytes_of}
 use Rattle.shelf_view.specs.State.{shown}
 use Rattle.shelf_view.proofs.Reading.{around}
-use Rattle.shelf_view.proofs.view.marked.View+Pair+Sl2+LineColumn.around.Goals as goal
+use Rattle.shelf_view.proofs.view.marked.View+Marked.around.Goals as goal
 
 pub returns : goal.returns
 returns c =

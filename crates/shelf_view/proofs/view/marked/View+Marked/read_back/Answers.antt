@@ -5,7 +5,7 @@ use Rattle.shelf_view.specs.Marked.{in_part, earlier, ReadsBack, of_buffer}
 use Rattle.shelf_view.specs.declared.refusal.Refusal.TheVariants.{NoDocument, BadPart, SmallBuffer}
 use Rattle.shelf_view.proofs.Firsts.{first_stays, first_then}
 use Rattle.shelf_view.proofs.Reading.{around_part}
-use Rattle.shelf_view.proofs.view.marked.View+Pair+Sl2+LineColumn.read_back.Goals as goal
+use Rattle.shelf_view.proofs.view.marked.View+Marked.read_back.Goals as goal
 
 pub returns-in_err-part : goal.returns-in_err-part
 returns-in_err-part c =
