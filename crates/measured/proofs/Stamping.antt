@@ -10,7 +10,7 @@ use Rattle.shelf_view.proofs.Firsts.{first_none}
 use Rattle.shelf_view.specs.State.{State, text_at}
 use Rattle.shelf_view.specs.declared.refusal.Refusal.{Refusal}
 use Rattle.text_shelf.specs.Shelves.{parts, brought, told, strings}
-use Rattle.text_shelf.specs.Calls.{appended, spliced, accepted, answer, reasons}
+use Rattle.text_shelf.specs.Calls.{appended, spliced, accepted, answer, reasons, every_shelf}
 use Rattle.text_shelf.specs.Steps.{Stepped, Steps, made}
 use Rattle.text_shelf.specs.Whys.{why}
 use Rattle.text_shelf.specs.declared.call.Call.{Call}
@@ -42,7 +42,7 @@ pub adds : {V R : Type 0} {kind : _} (s t : Shelf V R kind) (call : Call) (n k :
 unfolding number_of
 adds s t call n k text makes answers step = by (why s call) refl step
   where
-    by : (w : Option Refusal) → why s call ≡ w → Stepped w s call (made (Ok n)) t → Adds s t call n text
+    by : (w : Option Refusal) → why s call ≡ w → Stepped every_shelf w s call (made (Ok n)) t → Adds s t call n text
     by (Some e) h p = absurd (let z : ◌≡◌ {A = Result Answer Refusal} (Ok (Made n)) (Err e) = p.0 in cc)
     by None h p = record {
       none = h;

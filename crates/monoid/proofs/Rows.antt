@@ -1,14 +1,11 @@
 -- What the laws of a monoid give of rows.
-use Rattle.std.proofs.Common.{◌≡◌, Some, None, Option, unwrap_or, sym, refl, ap, ◌∙◌}
+use Rattle.std.proofs.Common.{◌≡◌, Some, None, Option, unwrap_or, refl, ap, ◌∙◌}
 use Rattle.monoid.specs.Monoid.{Model, Lawful, from_row}
 
 module _ {V R : Type 0} (m : Model V R) (l : Lawful m) where
   -- a value's row turns back into it
   pub from_row_back : (x : V) → from_row m (m.row x) ≡ x
   from_row_back x = ap (λ o. unwrap_or o m.empty) (l.back x)
-
-  pub from_row_value : (r : R) (x : V) → m.row x ≡ r → from_row m r ≡ x
-  from_row_value r x e = ap (from_row m) (sym e) ∙ from_row_back x
 
   pub from_row_is : {r : R} {o : Option V} {e x : V} → o ≡ m.check_row r → e ≡ m.empty → x ≡ unwrap_or o e → x ≡ from_row m r
   from_row_is eo ee ex = ex ∙ (λ i. unwrap_or (eo i) (ee i))

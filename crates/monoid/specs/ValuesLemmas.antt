@@ -1,4 +1,5 @@
--- Values that are rows under a condition that has one proof: equal rows are equal values.
+-- Values that are rows under a condition that has one proof: equal rows are equal values, and a row is checked by its
+-- condition.
 use Rattle.std.specs.Prelude.{◌≡◌, Some, None, Option, MatchOption, unwrap_or, refl}
 use Rattle.std.proofs.Common.{sym, ap, ◌∙◌}
 use mathlib.Core.HLevel.{is_prop→PathP}

@@ -12,7 +12,7 @@ pub mod pair;
 /// A summary of texts. No function refuses, and each is fixed by its arguments.
 pub trait Monoid: Copy {
     /// A value as it lies in records and tables: plain numbers, under no condition that their types can break. It is told by
-    /// functions to and fro in place of `From`, since the laws below tie them to the values.
+    /// functions to and fro in place of `From` and `TryFrom`, since the laws below tie them to the values.
     type Row: Copy;
 
     /// What the functions below mean.
@@ -58,7 +58,8 @@ pub trait Monoid: Copy {
         Self::check_row(row).unwrap_or(Self::empty())
     }
 
-    /// The row of two values joined, from their rows. Rows that are no values' are joined by the same formula, untested.
+    /// The row of two values joined, from their rows. What it is of rows that are no values', the model says as well: they
+    /// need not be tested.
     fn join_rows(left: Self::Row, right: Self::Row) -> Self::Row
         ensures { result ≡ model.joined_rows left right };
 
