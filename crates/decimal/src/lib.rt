@@ -2,31 +2,22 @@
 #![tactic(auto)]
 
 ghost use Rattle.std.specs.Prelude.{◌≡◌, length, decimal};
-ghost use Rattle.decimal.specs.Decimal.{Copied, Wrote};
+ghost use Rattle.refusal.specs.Writing.{Writes, of_room};
 
 use itoa::Buffer;
+use refusal::{Refusal, write_start};
 
-/// How many digits `n` has.
+/// How many digits `n` has: at most 20. Takes constant time.
 pub fn count(n: u64) -> usize
     ensures { result ≡ length (decimal n) }
 {
     n.checked_ilog10().map_or(1, |k| k as usize + 1)
 }
 
-/// Copies `text` to the start of `out` and tells its length; what lies behind it keeps its bytes. `None`, with `out`
-/// unchanged, exactly where `out` is too short.
-pub fn copy(text: &[u8], out: &mut [u8]) -> Option<usize>
-    ensures { Copied text.now out.old result out.new }
+/// Writes the digits of `n` at the start of `out`, and answers how many there are. What lies behind them keeps its bytes.
+/// Refused with SMALL BUFFER, and `out` as it was, exactly where `out` is shorter than the digits.
+pub fn write(n: u64, out: &mut [u8]) -> Result<usize, Refusal>
+    ensures { Writes (of_room (length (decimal n)) (length out.old)) (decimal n) out.old out.new result }
 {
-    let (front, _) = out.split_at_mut_checked(text.len())?;
-    front.copy_from_slice(text);
-    Some(text.len())
-}
-
-/// Writes the digits of `n` at the start of `out` and tells how many there are; what lies behind them keeps its
-/// bytes. `None`, with `out` unchanged, exactly where `out` is too short.
-pub fn write(n: u64, out: &mut [u8]) -> Option<usize>
-    ensures { Wrote n out.old result out.new }
-{
-    copy(Buffer::new().format(n).as_bytes(), out)
+    write_start(Buffer::new().format(n).as_bytes(), out)
 }

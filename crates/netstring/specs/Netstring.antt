@@ -1,5 +1,6 @@
 -- Netstrings: a length in decimal, a colon, that many bytes, a comma.
-use Rattle.std.specs.Prelude.{◌≡◌, ℕ, ◌≤◌, List, [], ◌∷◌, ◌++◌, length, drop, Some, None, decimal, Option, ◌≢◌, slice_index}
+use Rattle.std.specs.Prelude.{◌≡◌, ℕ, ◌≤◌, List, [], ◌∷◌, ◌++◌, length, drop, Ok, Err, decimal, Result, ◌≢◌, slice_index}
+use Rattle.refusal.specs.declared.Refusal.{Refusal}
 use Rattle.std.specs.Int.{IsInRange}
 
 -- the netstring of a content
@@ -39,6 +40,6 @@ abbrev pub NoNumber : List ℕ → Type 0
 NoNumber s = (n : ℕ) → Number s n → ⊥
 
 -- where a netstring was written, the one netstring at the front of the buffer has the content c
-abbrev pub ReadsBack : List ℕ → Option ℕ → List ℕ → Type 0
-ReadsBack c None is = Unit {0}
-ReadsBack c (Some k) is = NetstringAt is 0 c k
+abbrev pub ReadsBack : List ℕ → Result ℕ Refusal → List ℕ → Type 0
+ReadsBack c (Err e) is = Unit {0}
+ReadsBack c (Ok k) is = NetstringAt is 0 c k

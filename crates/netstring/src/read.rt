@@ -1,6 +1,9 @@
 //! Reading netstrings, and numbers written like their lengths.
-ghost use Rattle.std.specs.Prelude.{◌<◌, ◌++◌, decimal, MatchOption};
+ghost use Rattle.std.specs.Prelude.{◌≡◌, ◌<◌, ◌++◌, decimal, MatchOption, MatchResult};
+ghost use Rattle.refusal.specs.declared.Refusal.TheVariants.{BadNetstring};
 ghost use Rattle.netstring.specs.Netstring.{NoRun, Run, NoNumber, Number, NoNetstringAt, NetstringAt};
+
+use refusal::Refusal;
 
 /// What a netstring holds, and the place behind it: a place and no rest, since a script's calls are told by their places.
 #[derive(Clone, Copy)]
@@ -46,9 +49,8 @@ pub fn number(text: &[u8]) -> Option<usize>
     }
 }
 
-/// The netstring that stands in `text` at the place `at`. `None` exactly where none does; a length may have any number
-/// of digits.
-pub fn read<'t>(text: &'t [u8], at: usize) -> Option<Netstring<'t>>
+// The netstring that stands in `text` at the place `at`.
+fn netstring_at<'t>(text: &'t [u8], at: usize) -> Option<Netstring<'t>>
     ensures { MatchOption result (NoNetstringAt text.now at) (λ n. NetstringAt text.now at n.content.now n.next) }
 {
     let here = text.get(at..)?;
@@ -60,4 +62,14 @@ pub fn read<'t>(text: &'t [u8], at: usize) -> Option<Netstring<'t>>
         content,
         next: text.len() - behind.len(),
     })
+}
+
+/// The netstring that stands in `text` at the place `at`. A length may have any number of digits. Refused with BAD NETSTRING
+/// exactly where no netstring stands there.
+///
+/// Takes time in the number of digits.
+pub fn read<'t>(text: &'t [u8], at: usize) -> Result<Netstring<'t>, Refusal>
+    ensures { MatchResult result (λ n. NetstringAt text.now at n.content.now n.next) (λ e. (e ≡ BadNetstring) × NoNetstringAt text.now at) }
+{
+    netstring_at(text, at).ok_or(Refusal::BadNetstring)
 }

@@ -1,22 +1,27 @@
 //! Writing netstrings.
-ghost use Rattle.decimal.specs.Decimal.{Copied};
+ghost use Rattle.std.specs.Prelude.{length};
+ghost use Rattle.refusal.specs.Writing.{Writes, of_room};
 ghost use Rattle.netstring.specs.Netstring.{netstring, ReadsBack};
 
-/// Writes the netstring of `content` at the start of `out` and tells its length; what lies behind it keeps its bytes.
-/// `None`, with `out` unchanged, exactly where `out` is too short.
-pub fn write(content: &[u8], out: &mut [u8]) -> Option<usize>
-    ensures written { Copied (netstring content.now) out.old result out.new }
+use refusal::{Refusal, write_start};
+
+/// Writes the netstring of `content` at the start of `out`, and answers its length. What lies behind it keeps its bytes.
+/// Refused with SMALL BUFFER, and `out` as it was, exactly where `out` is too short.
+///
+/// Takes time in the length of `content`.
+pub fn write(content: &[u8], out: &mut [u8]) -> Result<usize, Refusal>
+    ensures written { Writes (of_room (length (netstring content.now)) (length out.old)) (netstring content.now) out.old out.new result }
     ensures reads_back { ReadsBack content.now result out.new }
 {
     let len = content.len();
     let k = decimal::count(len as u64);
-    let whole = len.checked_add(k + 2)?;
+    let whole = len + k + 2;
     if out.len() < whole {
-        return None;
+        return Err(Refusal::SmallBuffer);
     }
     decimal::write(len as u64, out)?;
     out[k] = b':';
-    decimal::copy(content, &mut out[k + 1..])?;
+    write_start(content, &mut out[k + 1..])?;
     out[whole - 1] = b',';
-    Some(whole)
+    Ok(whole)
 }

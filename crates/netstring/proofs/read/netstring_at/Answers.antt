@@ -3,7 +3,7 @@ use Rattle.std.proofs.lemmas.Bool.Decides.{Decides-eqb}
 use Rattle.std.proofs.lemmas.List.{take_rest, length-drop}
 use Rattle.std.proofs.lemmas.Slice.Eq.{strip_prefix_is}
 use Rattle.netstring.proofs.Fronts.{shorter, no_run, behind_run, cut, stands_there}
-use Rattle.netstring.proofs.read.read.Goals as goal
+use Rattle.netstring.proofs.read.netstring_at.Goals as goal
 
 pub returns-in_err-here : goal.returns-in_err-here
 returns-in_err-here c = rw c.from_residual.ensures (λ d t e. omega (arith, shorter (drop c.args.at c.args.text.now) d t e, length-drop c.args.at c.args.text.now, c.in_err-here.ensures.lookup))
