@@ -1,7 +1,7 @@
 use crate::range::ByteRange;
 use monoid::Monoid;
 use rope::record::{Record, Shape, Source};
-use shelf_view::refusal::Refusal;
+use refusal::Refusal;
 use std::test::Fail;
 use text_shelf::shelf::Shelf;
 

@@ -1,5 +1,5 @@
 //! What a marked shelf tells of its documents, for a reader.
-ghost use Rattle.shelf_view.specs.Refusals.{Answers};
+ghost use Rattle.refusal.specs.Refusals.{Answers};
 ghost use Rattle.shelf_view.specs.State.{strings, text_at};
 ghost use Rattle.shelf_view.specs.Questions.{of_document, of_part};
 ghost use Rattle.compare.specs.Shown.{Stands, Tells};
@@ -7,7 +7,7 @@ ghost use Rattle.compare.specs.Shown.{Stands, Tells};
 use anyhow::{Error, anyhow};
 use monoid::line_column::LineColumn;
 use script::run::Marked;
-use shelf_view::refusal::Refusal;
+use refusal::Refusal;
 use shelf_view::view::View;
 use std::fmt;
 

@@ -4,7 +4,7 @@ use crate::kind::Kind;
 use crate::steps::{NO_PARTS, PARTS, Piece, TEXTS};
 use monoid::Monoid;
 use shelf_view::draft_id::DraftId;
-use shelf_view::refusal::Refusal;
+use refusal::Refusal;
 use shelf_view::view::View;
 use std::process::Abort;
 

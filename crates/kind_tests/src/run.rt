@@ -1,6 +1,6 @@
 //! Making calls by the shelf's methods, with the draft that a test holds.
 use monoid::Monoid;
-use shelf_view::refusal::Refusal;
+use refusal::Refusal;
 use std::process::Abort;
 use text_shelf::draft::Draft;
 use text_shelf::shelf::Shelf;

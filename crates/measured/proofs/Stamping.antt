@@ -6,9 +6,9 @@ use Rattle.std.proofs.lemmas.Slice.{between_from_start}
 use Rattle.std.proofs.lemmas.Bool.{ltb-false, or_parts}
 use Rattle.std.proofs.lemmas.List.{get_or_append_left, length-take, take_all}
 use Rattle.shelf_view.specs.Documents.{most}
-use Rattle.shelf_view.proofs.Firsts.{first_none}
+use Rattle.refusal.proofs.Firsts.{first_none}
 use Rattle.shelf_view.specs.State.{State, text_at}
-use Rattle.shelf_view.specs.declared.refusal.Refusal.{Refusal}
+use Rattle.refusal.specs.declared.Refusal.{Refusal}
 use Rattle.text_shelf.specs.Shelves.{parts, brought, told, strings}
 use Rattle.text_shelf.specs.Calls.{appended, spliced, accepted, answer, reasons, every_shelf}
 use Rattle.text_shelf.specs.Steps.{Stepped, Steps, made}

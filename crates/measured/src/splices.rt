@@ -6,7 +6,7 @@ ghost use Rattle.measured.specs.Stamps.{stamped, Holds, Answers};
 
 use script::run::MarkedShelf;
 use shelf_memory::memory::{Memory, Sizes};
-use shelf_view::refusal::Refusal;
+use refusal::Refusal;
 use std::alloc::Global;
 use zemor::matrix::Sl2;
 

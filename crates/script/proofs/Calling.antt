@@ -12,7 +12,7 @@ use Rattle.script.specs.Words.{spelling}
 use Rattle.script.specs.Calls.{word, numbers, arguments, places, netstrings, places_from, content, Reads}
 use Rattle.script.specs.Calls.Misread.{no_call}
 use Rattle.script.specs.Parsing.{TextAt, NumbersAt, NoNumbersAt, PartsAt, NoPartsAt, CallInside}
-use Rattle.shelf_view.specs.declared.refusal.Refusal.TheVariants.{BadCall}
+use Rattle.refusal.specs.declared.Refusal.TheVariants.{BadCall}
 use Rattle.script.specs.declared.call.Argument.{Argument}
 use Rattle.script.specs.declared.call.Word.{Word}
 use Rattle.script.specs.declared.call.Word.TheVariants as words

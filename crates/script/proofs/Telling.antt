@@ -11,11 +11,12 @@ use Rattle.monoid.specs.declared.line_column.LineColumn.{LineColumn}
 use Rattle.monoid.specs.declared.pair.Pair.{Pair}
 use Rattle.zemor.specs.declared.matrix.Sl2.{Sl2}
 use Rattle.shelf_view.specs.Marked.{marked, fingerprint, written}
-use Rattle.shelf_view.specs.Questions.{of_document, of_copy, Writes}
-use Rattle.shelf_view.specs.declared.refusal.Refusal.{Refusal}
+use Rattle.shelf_view.specs.Questions.{of_document, of_copy}
+use Rattle.refusal.specs.Writing.{Writes}
+use Rattle.refusal.specs.declared.Refusal.{Refusal}
 use Rattle.shelf_view.specs.State.{State, text_at, unknown}
-use Rattle.shelf_view.specs.declared.refusal.Refusal.TheVariants.{NoDocument}
-use Rattle.shelf_view.proofs.Firsts.{passed}
+use Rattle.refusal.specs.declared.Refusal.TheVariants.{NoDocument}
+use Rattle.refusal.proofs.Firsts.{passed}
 use Rattle.shelf_view.proofs.Marking.{first_half}
 use Rattle.script.specs.Answers.{Wrote, mark_of, text_of}
 

@@ -3,7 +3,7 @@ use Rattle.std.proofs.Common.{◌≡◌, ℕ, ◌<◌, ◌≤◌, List, ◌++◌
 use Rattle.std.proofs.lemmas.List.{take_at}
 use Rattle.decimal.specs.Decimal.{Copied}
 use Rattle.netstring.proofs.Puts.{long}
-use Rattle.shelf_view.specs.declared.refusal.Refusal.{Refusal}
+use Rattle.refusal.specs.declared.Refusal.{Refusal}
 use Rattle.text_shelf.specs.declared.shelf.Shelf.{Shelf}
 use Rattle.script.specs.Calls.{content, Reads, Misread}
 use Rattle.script.specs.Calls.Misread.{no_netstring, no_call}

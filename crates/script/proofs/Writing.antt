@@ -6,8 +6,8 @@ use Rattle.std.specs.Option.{IsSome}
 use Rattle.std.proofs.lemmas.List.{take_at, drop_at, drop_all, drop-drop, length-drop, take_rest}
 use Rattle.decimal.specs.Decimal.{Copied}
 use Rattle.netstring.specs.Netstring.{netstring}
-use Rattle.shelf_view.specs.Refusals.{number_of}
-use Rattle.shelf_view.specs.declared.refusal.Refusal.{Refusal}
+use Rattle.refusal.specs.Refusals.{number_of}
+use Rattle.refusal.specs.declared.Refusal.{Refusal}
 use Rattle.script.specs.Answers.{worded}
 
 -- a number has at most twenty digits

@@ -4,12 +4,12 @@ use Rattle.std.specs.Io.KnownBytes.{Appends}
 use Rattle.std.specs.Result.{result_map_both}
 use Rattle.decimal.specs.Decimal.{Copied}
 use Rattle.netstring.specs.Netstring.{netstring}
-use Rattle.shelf_view.specs.Refusals.{number_of, first}
+use Rattle.refusal.specs.Refusals.{number_of, first}
 use Rattle.shelf_view.specs.State.{State, unknown, text_at}
 use Rattle.shelf_view.specs.Questions.{of_document}
 use Rattle.shelf_view.specs.Marked.{fingerprint, written}
-use Rattle.shelf_view.specs.declared.refusal.Refusal.{Refusal}
-use Rattle.shelf_view.specs.declared.refusal.Refusal.TheVariants.{NoDocument, SmallBuffer}
+use Rattle.refusal.specs.declared.Refusal.{Refusal}
+use Rattle.refusal.specs.declared.Refusal.TheVariants.{NoDocument, SmallBuffer}
 use Rattle.text_shelf.specs.Shelves.{parts, strings}
 use Rattle.text_shelf.specs.Steps.{Steps, made}
 use Rattle.text_shelf.specs.declared.call.Call.{Call as Edit}

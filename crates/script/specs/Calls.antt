@@ -2,8 +2,8 @@
 use Rattle.std.specs.Prelude.{◌≡◌, ℕ, ◌+◌, ◌≤◌, List, [], ◌∷◌, map, length, decimal, Ok, Err, Result, ◌≢◌}
 use Rattle.std.specs.List.{flat_map, AllByRecursion}
 use Rattle.netstring.specs.Netstring.{netstring, NetstringAt, NoNetstringAt}
-use Rattle.shelf_view.specs.declared.refusal.Refusal.{Refusal}
-use Rattle.shelf_view.specs.declared.refusal.Refusal.TheVariants.{BadNetstring, BadCall}
+use Rattle.refusal.specs.declared.Refusal.{Refusal}
+use Rattle.refusal.specs.declared.Refusal.TheVariants.{BadNetstring, BadCall}
 use Rattle.script.specs.Words.{spelling}
 use Rattle.script.specs.declared.call.Word.{Word}
 use Rattle.script.specs.declared.call.Word.TheVariants as words

@@ -7,7 +7,7 @@ ghost use Rattle.shelf_view.specs.Questions.{of_document};
 ghost use Rattle.script.specs.Answers.{answer};
 
 use monoid::Monoid;
-use shelf_view::refusal::Refusal;
+use refusal::Refusal;
 use shelf_view::view::View;
 
 /// So many bytes hold every answer: the netstring of the longest text that is told.

@@ -6,7 +6,7 @@ ghost use Rattle.script.specs.Parsing.{TextAt, NumbersAt, NoNumbersAt, PartsAt, 
 
 use crate::call::{Argument, Call, Word};
 use netstring::read::Netstring;
-use shelf_view::refusal::Refusal;
+use refusal::Refusal;
 
 /// What stands at a place of a script: a call, or why there is none; and the place behind it.
 #[derive(Clone, Copy)]

@@ -4,8 +4,8 @@ ghost use Rattle.std.specs.IoError.{error_kind};
 ghost use Rattle.decimal.specs.Decimal.{Copied};
 ghost use Rattle.netstring.specs.Netstring.{netstring};
 ghost use Rattle.text_shelf.specs.Shelves.{parts, strings};
-ghost use Rattle.shelf_view.specs.declared.refusal.Refusal.{Refusal};
-ghost use Rattle.shelf_view.specs.declared.refusal.Refusal.TheVariants.{SmallBuffer};
+ghost use Rattle.refusal.specs.declared.Refusal.{Refusal};
+ghost use Rattle.refusal.specs.declared.Refusal.TheVariants.{SmallBuffer};
 ghost use Rattle.script.specs.Answers.{Turn, Ran, RanInto, RanAll, Says, Wrote, numbered, mark_of, text_of};
 
 use crate::answer::{
@@ -17,7 +17,7 @@ use crate::read::{Reading, read};
 use crate::writer::write_whole;
 use monoid::line_column::LineColumn;
 use monoid::pair::Pair;
-use shelf_view::refusal::Refusal;
+use refusal::Refusal;
 use std::io;
 use std::io::{ErrorKind, Write};
 use text_shelf::shelf::Shelf;

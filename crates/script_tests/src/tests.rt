@@ -2,8 +2,8 @@
 use monoid::Monoid;
 use rope::record::Record;
 use script::answer::MOST_ANSWER;
+use refusal::Refusal;
 use script::run::{Answered, Marked, run, run_all, run_into};
-use shelf_view::refusal::Refusal;
 use std::alloc::Global;
 use std::io;
 use std::io::{ErrorKind, Write};

@@ -4,8 +4,8 @@ use Rattle.std.proofs.lemmas.Bool.Decides.{nat_tests}
 use Rattle.rope.specs.Arena.{Root}
 use Rattle.rope.specs.declared.record.Record.{Record}
 use Rattle.shelf_view.specs.declared.draft_id.DraftId.{DraftId}
-use Rattle.shelf_view.specs.declared.refusal.Refusal.{Refusal}
-use Rattle.shelf_view.specs.declared.refusal.Refusal.TheVariants.{NoDocument}
+use Rattle.refusal.specs.declared.Refusal.{Refusal}
+use Rattle.refusal.specs.declared.Refusal.TheVariants.{NoDocument}
 use Rattle.text_shelf.specs.Shelves.{Fresh, parts, brought, told, strings}
 use Rattle.text_shelf.specs.Calls.{every_shelf, reason}
 use Rattle.text_shelf.specs.Reaches.{Reached, fresh, called, used_of}

@@ -6,7 +6,7 @@ use Rattle.rope.specs.Arena.{Root, Summed, text_of}
 use Rattle.rope.specs.Memory.{arena_of}
 use Rattle.rope.specs.declared.record.Record.{Record}
 use Rattle.shelf_view.specs.State.{State, text_at}
-use Rattle.shelf_view.specs.declared.refusal.Refusal.{Refusal}
+use Rattle.refusal.specs.declared.Refusal.{Refusal}
 use Rattle.text_shelf.specs.Shelves.{Brought, Fresh, parts, shelved, brought, told, strings}
 use Rattle.text_shelf.specs.Rules.{Rules, refusal, next}
 use Rattle.text_shelf.specs.Reaches.{Reached, fresh, called, used_of}

@@ -17,11 +17,11 @@ use Rattle.rope.specs.Arena.{Sound, text_of}
 use Rattle.shelf_view.specs.Documents.{all_fine}
 use Rattle.shelf_view.specs.Marked.{marked, fingerprint}
 use Rattle.shelf_view.specs.Questions.{of_document}
-use Rattle.shelf_view.specs.Refusals.{Answers}
+use Rattle.refusal.specs.Refusals.{Answers}
 use Rattle.shelf_view.specs.State.{State, Shelved, state_of, text_at, unknown, kept_values}
-use Rattle.shelf_view.specs.declared.refusal.Refusal.{Refusal}
-use Rattle.shelf_view.specs.declared.refusal.Refusal.TheVariants.{NoDocument}
-use Rattle.shelf_view.proofs.Firsts.{first_or, first_stays, first_then, passed}
+use Rattle.refusal.specs.declared.Refusal.{Refusal}
+use Rattle.refusal.specs.declared.Refusal.TheVariants.{NoDocument}
+use Rattle.refusal.proofs.Firsts.{first_or, first_stays, first_then, passed}
 use Rattle.shelf_view.proofs.Marking.{root_bytes}
 use Rattle.shelf_view.proofs.Placing.{fine_at}
 use Rattle.text_shelf.specs.Shelves.{Brought, parts, shelved}

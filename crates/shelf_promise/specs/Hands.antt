@@ -2,7 +2,7 @@
 use Rattle.std.specs.Prelude.{ℕ, List, [], ◌∷◌, Ok, Result}
 use Rattle.std.specs.Borrow.{Bor}
 use Rattle.shelf_view.specs.declared.draft_id.DraftId.{DraftId}
-use Rattle.shelf_view.specs.declared.refusal.Refusal.{Refusal}
+use Rattle.refusal.specs.declared.Refusal.{Refusal}
 use Rattle.text_shelf.specs.Steps.{made, done, sealed}
 use Rattle.text_shelf.specs.declared.call.Call.{Call}
 use Rattle.text_shelf.specs.declared.call.Call.TheVariants.{Open, Add, Put, Cut, Seal}

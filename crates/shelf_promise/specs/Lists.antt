@@ -2,7 +2,7 @@
 use Rattle.std.specs.Prelude.{◌≡◌, ℕ, ◌+◌, ◌<◌, ◌≤◌, true, false, Bool, List, [], ◌∷◌, length, Some, None, Ok, Err, Option, Result, is_ok, slice_index, slice_index_or}
 use Rattle.monoid.specs.Monoid.{Model, fold_of}
 use Rattle.shelf_view.specs.State.{State, text_at, kept_values}
-use Rattle.shelf_view.specs.declared.refusal.Refusal.{Refusal}
+use Rattle.refusal.specs.declared.Refusal.{Refusal}
 use Rattle.text_shelf.specs.Shelves.{Brought, Told, parts, shelved, brought, told, strings}
 use Rattle.text_shelf.specs.Rules.{Rules, refusal, next}
 use Rattle.text_shelf.specs.Reaches.{Reached, fresh, called}

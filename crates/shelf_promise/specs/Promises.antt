@@ -9,10 +9,10 @@ use Rattle.zemor.specs.declared.matrix.Entries.{Entries}
 use Rattle.zemor.specs.declared.matrix.Sl2.{Sl2}
 use Rattle.shelf_view.specs.Marked.{marked, fingerprint, in_part, ReadsBack}
 use Rattle.shelf_view.specs.Questions.{of_document, of_part, of_copy}
-use Rattle.shelf_view.specs.Refusals.{Answers, first}
+use Rattle.refusal.specs.Refusals.{Answers, first}
 use Rattle.shelf_view.specs.State.{State, unknown, text_at}
-use Rattle.shelf_view.specs.declared.refusal.Refusal.{Refusal}
-use Rattle.shelf_view.specs.declared.refusal.Refusal.TheVariants.{NoDocument}
+use Rattle.refusal.specs.declared.Refusal.{Refusal}
+use Rattle.refusal.specs.declared.Refusal.TheVariants.{NoDocument}
 use Rattle.text_shelf.specs.Shelves.{Brought}
 use Rattle.text_shelf.specs.Rules.{Rules}
 use Rattle.text_shelf.specs.Calls.{every_shelf}

@@ -1,6 +1,6 @@
 //! Calls made one by one, with the tokens that they hand out, and what that promises: an example.
 ghost use Rattle.std.specs.Prelude.{◌≡◌, Err};
-ghost use Rattle.shelf_view.specs.declared.refusal.Refusal.TheVariants.{NoDocument};
+ghost use Rattle.refusal.specs.declared.Refusal.TheVariants.{NoDocument};
 ghost use Rattle.text_shelf.specs.Calls.{every_shelf};
 ghost use Rattle.text_shelf.specs.Reaches.{Reached, used_of};
 ghost use Rattle.shelf_promise.specs.Hands.{calls_made, answers_given};
@@ -8,7 +8,7 @@ ghost use Rattle.shelf_promise.specs.Hands.{calls_made, answers_given};
 use monoid::Monoid;
 use rope::record::{Record, Root};
 use shelf_view::draft_id::DraftId;
-use shelf_view::refusal::Refusal;
+use refusal::Refusal;
 use text_shelf::draft::Draft;
 use text_shelf::shelf::Shelf;
 

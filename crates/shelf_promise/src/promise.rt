@@ -5,7 +5,7 @@ use crate::told;
 use monoid::Monoid;
 use monoid::line_column::LineColumn;
 use monoid::pair::Pair;
-use shelf_view::refusal::Refusal;
+use refusal::Refusal;
 use text_shelf::shelf::Shelf;
 use zemor::matrix::Sl2;
 

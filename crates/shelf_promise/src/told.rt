@@ -6,7 +6,7 @@ ghost use Rattle.shelf_promise.specs.Promises.{Tells, Keeps, DocumentFolds, Part
 use monoid::Monoid;
 use monoid::line_column::LineColumn;
 use monoid::pair::Pair;
-use shelf_view::refusal::Refusal;
+use refusal::Refusal;
 use text_shelf::shelf::Shelf;
 use zemor::matrix::Sl2;
 

@@ -3,7 +3,7 @@
 use monoid::Monoid;
 use rope::record::{Record, Root};
 use shelf_view::draft_id::DraftId;
-use shelf_view::refusal::Refusal;
+use refusal::Refusal;
 use std::process::Abort;
 use text_shelf::call::{Answer, Call};
 use text_shelf::draft::Draft;

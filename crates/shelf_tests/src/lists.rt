@@ -3,7 +3,7 @@ use crate::calls::{UNANSWERED, end};
 use crate::memory::LINE;
 use rope::record::Record;
 use shelf_view::draft_id::DraftId;
-use shelf_view::refusal::Refusal;
+use refusal::Refusal;
 use std::process::Abort;
 use std::test::Fail;
 use text_shelf::call::{Answer, Call};

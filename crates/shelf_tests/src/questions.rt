@@ -1,7 +1,7 @@
 //! Questions, on a marked shelf.
 use crate::memory::MARKED;
 use rope::record::Record;
-use shelf_view::refusal::Refusal;
+use refusal::Refusal;
 use shelf_view::sameness::Sameness;
 use std::test::Fail;
 use text_shelf::named::MarkedShelf;

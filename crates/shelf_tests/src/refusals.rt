@@ -4,7 +4,7 @@ use crate::memory::LINE;
 use monoid::line_column::LineColumn;
 use rope::record::Record;
 use shelf_view::draft_id::DraftId;
-use shelf_view::refusal::Refusal;
+use refusal::Refusal;
 use std::process::Abort;
 use std::test::Fail;
 use text_shelf::call::Call;

@@ -8,11 +8,11 @@ use Rattle.monoid.specs.Monoid.{Model}
 use Rattle.rope.specs.Arena.{Arena, Root, text_of, height_of, kept_of, rooted}
 use Rattle.shelf_view.specs.Documents.{fine, all_fine, most}
 use Rattle.shelf_view.specs.State.{Shelved, state_of, unknown}
-use Rattle.shelf_view.specs.Refusals.{Answers}
+use Rattle.refusal.specs.Refusals.{Answers}
 use Rattle.shelf_view.specs.Questions.{of_document}
 use Rattle.shelf_view.specs.Places.{Lies}
-use Rattle.shelf_view.specs.declared.refusal.Refusal.TheVariants.{NoDocument}
-use Rattle.shelf_view.proofs.Firsts.{first_is, first_not}
+use Rattle.refusal.specs.declared.Refusal.TheVariants.{NoDocument}
+use Rattle.refusal.proofs.Firsts.{first_is, first_not}
 
 pub fine_at : {R : Type 0} (a : Arena R) (ps : List Root) (i : ℕ) (d : Root) → all_fine a ps ≡ true → i < length ps → fine a (get_or ps i d) ≡ true
 fine_at a [] i d h l = absurd (omega arith)

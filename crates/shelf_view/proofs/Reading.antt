@@ -22,8 +22,8 @@ use Rattle.rope.specs.Arena.{text_of}
 use Rattle.shelf_view.specs.State.{Shelved, state_of, text_at}
 use Rattle.shelf_view.specs.Places.{Span}
 use Rattle.shelf_view.specs.Marked.{marked, fingerprint, written, in_part, in_between, Gives, earlier, misshapen, none_gives, ReadsBack, of_buffer, Around}
-use Rattle.shelf_view.specs.declared.refusal.Refusal.{Refusal}
-use Rattle.shelf_view.specs.declared.refusal.Refusal.TheVariants.{SmallBuffer, BadFingerprint, NoWindow}
+use Rattle.refusal.specs.declared.Refusal.{Refusal}
+use Rattle.refusal.specs.declared.Refusal.TheVariants.{SmallBuffer, BadFingerprint, NoWindow}
 use Rattle.shelf_view.specs.declared.view.part.Part.{Part}
 use Rattle.shelf_view.proofs.Marking.{first_half}
 

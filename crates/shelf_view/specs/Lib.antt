@@ -1,4 +1,3 @@
-pub mod Refusals
 pub mod Documents
 pub mod State
 pub mod Questions

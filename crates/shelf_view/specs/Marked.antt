@@ -11,10 +11,10 @@ use Rattle.zemor.specs.Written.{hex, bytes_of, WellFormed}
 use Rattle.zemor.specs.declared.matrix.Entries.{Entries}
 use Rattle.zemor.specs.declared.matrix.Sl2.{Sl2}
 use Rattle.rope.specs.Arena.{text_of}
-use Rattle.shelf_view.specs.Refusals.{first}
+use Rattle.refusal.specs.Refusals.{first}
 use Rattle.shelf_view.specs.State.{Shelved}
-use Rattle.shelf_view.specs.declared.refusal.Refusal.{Refusal}
-use Rattle.shelf_view.specs.declared.refusal.Refusal.TheVariants.{SmallBuffer, BadFingerprint, NoWindow}
+use Rattle.refusal.specs.declared.Refusal.{Refusal}
+use Rattle.refusal.specs.declared.Refusal.TheVariants.{SmallBuffer, BadFingerprint, NoWindow}
 use Rattle.shelf_view.specs.declared.view.part.Part.{Part}
 use Rattle.shelf_view.specs.declared.sameness.Sameness.{Sameness}
 use Rattle.shelf_view.specs.declared.sameness.Sameness.TheVariants.{Different, Equal, Alike}

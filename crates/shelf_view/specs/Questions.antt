@@ -1,10 +1,10 @@
 -- What each question answers, and why it is refused.
 use Rattle.std.specs.Prelude.{◌≡◌, ℕ, ◌+◌, ◌||◌, List, [], ◌∷◌, ◌++◌, length, drop, Some, None, Ok, Err, Option, Result, nat_le, nat_lt}
-use Rattle.shelf_view.specs.Refusals.{first}
+use Rattle.refusal.specs.Refusals.{first}
 use Rattle.shelf_view.specs.State.{State, unknown, text_at, bad_part, strange}
 use Rattle.shelf_view.specs.declared.draft_id.DraftId.{DraftId}
-use Rattle.shelf_view.specs.declared.refusal.Refusal.{Refusal}
-use Rattle.shelf_view.specs.declared.refusal.Refusal.TheVariants.{StrangeDraft, NoDocument, BadPart, SmallBuffer}
+use Rattle.refusal.specs.declared.Refusal.{Refusal}
+use Rattle.refusal.specs.declared.Refusal.TheVariants.{StrangeDraft, NoDocument, BadPart, SmallBuffer}
 
 -- why a question about document d is refused
 abbrev pub of_document : State → ℕ → Option Refusal
@@ -28,9 +28,3 @@ of_copy s d a b k n = first ((unknown s d, NoDocument) ∷ (bad_part (text_at s 
 abbrev pub of_same : State → ℕ → ℕ → ℕ → ℕ → ℕ → Option Refusal
 of_same s d a e b n =
     first ((unknown s d || unknown s e, NoDocument) ∷ (bad_part (text_at s d) a (a + n) || bad_part (text_at s e) b (b + n), BadPart) ∷ [])
-
--- an answer that is written: the bytes w at the buffer's start, what lies behind keeps its bytes, and their number is
--- answered; a refusal leaves the buffer as it was
-abbrev pub Writes : Option Refusal → List ℕ → List ℕ → List ℕ → Result ℕ Refusal → Type 0
-Writes why w old new (Ok n) = (why ≡ None) × (n ≡ length w) × (new ≡ w ++ drop n old)
-Writes why w old new (Err e) = (why ≡ Some e) × (new ≡ old)

@@ -3,7 +3,6 @@
 
 pub mod draft_id;
 pub mod marked;
-pub mod refusal;
 pub mod sameness;
 pub mod view;
 pub mod window;

@@ -2,7 +2,7 @@
 ghost use Rattle.std.specs.Prelude.{◌≡◌, ◌≤◌, ◌++◌, length, drop};
 ghost use Rattle.shelf_view.specs.Marked.{in_between, of_buffer, ReadsBack};
 
-use crate::refusal::Refusal;
+use refusal::Refusal;
 use zemor::matrix::Sl2;
 use zemor::window::ops::read_back;
 

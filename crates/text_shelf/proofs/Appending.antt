@@ -12,7 +12,7 @@ use Rattle.rope.proofs.Keeping.{takes_added}
 use Rattle.rope_keep.specs.Kept.{Grows}
 use Rattle.shelf_view.specs.Documents.{fine, all_fine, root_in, most}
 use Rattle.shelf_view.specs.State.{State, text_at}
-use Rattle.shelf_view.proofs.Firsts.{first_none}
+use Rattle.refusal.proofs.Firsts.{first_none}
 use Rattle.rope.specs.Held.{held, Gains}
 use Rattle.text_shelf.specs.Shelves.{Parts, parts, Brought, brought, Told, told, strings}
 use Rattle.text_shelf.specs.Calls.{appended, spliced, accepted, answer, need, brings, DraftHeight, reason, reasons, numbers_spent}

@@ -11,12 +11,12 @@ use Rattle.rope.proofs.Keeping.{fills_none, takes_none}
 use Rattle.rope_cut.specs.Parts.{text_in, height_in}
 use Rattle.rope_keep.specs.Kept.{Grows, add_need}
 use Rattle.shelf_view.specs.Documents.{most}
-use Rattle.shelf_view.specs.Refusals.{first}
-use Rattle.shelf_view.specs.declared.refusal.Refusal.TheVariants.{DraftOpen}
+use Rattle.refusal.specs.Refusals.{first}
+use Rattle.refusal.specs.declared.Refusal.TheVariants.{DraftOpen}
 use Rattle.shelf_view.specs.State.{draft_text}
 use Rattle.shelf_view.specs.Places.{Drafts}
 use Rattle.shelf_view.specs.declared.draft_id.DraftId.{DraftId}
-use Rattle.shelf_view.proofs.Firsts.{first_none, first_not}
+use Rattle.refusal.proofs.Firsts.{first_none, first_not}
 use Rattle.rope.specs.Held.{held, Gains}
 use Rattle.text_shelf.specs.Shelves.{Parts, parts, shelved, brought, told, strings}
 use Rattle.text_shelf.specs.Calls.{with_draft, accepted, need, DraftHeight, reason, reasons}

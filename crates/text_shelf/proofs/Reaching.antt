@@ -5,7 +5,7 @@ use Rattle.rope.specs.Arena.{Root}
 use Rattle.rope.specs.Lents.{Fills}
 use Rattle.rope.proofs.Keeping.{fills_none, fills_trans}
 use Rattle.rope.specs.declared.record.Record.{Record}
-use Rattle.shelf_view.specs.declared.refusal.Refusal.{Refusal}
+use Rattle.refusal.specs.declared.Refusal.{Refusal}
 use Rattle.text_shelf.specs.Rules.{Rules}
 use Rattle.text_shelf.specs.Shelves.{Parts, Fresh, parts}
 use Rattle.text_shelf.specs.Steps.{Stepped, StepsBy}

@@ -3,12 +3,12 @@ use Rattle.std.proofs.Common.{◌≡◌, ℕ, ◌+◌, ◌-◌, ◌<◌, ◌≤�
 use Rattle.std.proofs.lemmas.Bool.{lt-ltb, le-ltb}
 use Rattle.rope_cut.specs.Parts.{edit_need}
 use Rattle.shelf_view.specs.Documents.{most}
-use Rattle.shelf_view.specs.Refusals.{Reasons, first}
+use Rattle.refusal.specs.Refusals.{Reasons, first}
 use Rattle.shelf_view.specs.State.{Shelved, state_of, unknown, text_at, bad_part}
 use Rattle.shelf_view.specs.Questions.{of_document, of_part}
-use Rattle.shelf_view.specs.declared.refusal.Refusal.{Refusal}
-use Rattle.shelf_view.specs.declared.refusal.Refusal.TheVariants.{NoDocument, BadPart, TooLong}
-use Rattle.shelf_view.proofs.Firsts.{first_is, first_not, first_stays, first_then, first_or, passed}
+use Rattle.refusal.specs.declared.Refusal.{Refusal}
+use Rattle.refusal.specs.declared.Refusal.TheVariants.{NoDocument, BadPart, TooLong}
+use Rattle.refusal.proofs.Firsts.{first_is, first_not, first_stays, first_then, first_or, passed}
 use Rattle.text_shelf.specs.Shelves.{Brought, Told}
 use Rattle.text_shelf.specs.Calls.{reason, spliced}
 use Rattle.text_shelf.specs.Ends.{memory}

@@ -5,10 +5,10 @@ use Rattle.std.specs.List.{between}
 use Rattle.rope_cut.specs.Parts.{edit_need}
 use Rattle.rope_keep.specs.Kept.{need_of_text, add_need}
 use Rattle.shelf_view.specs.Documents.{most}
-use Rattle.shelf_view.specs.Refusals.{Reasons}
+use Rattle.refusal.specs.Refusals.{Reasons}
 use Rattle.shelf_view.specs.State.{State, unknown, text_at, bad_part, strange, draft_text}
-use Rattle.shelf_view.specs.declared.refusal.Refusal.{Refusal}
-use Rattle.shelf_view.specs.declared.refusal.Refusal.TheVariants.{StrangeDraft, DraftOpen, NoDocument, BadPart, TooLong, TextFull, RecordsShort, NumbersSpent}
+use Rattle.refusal.specs.declared.Refusal.{Refusal}
+use Rattle.refusal.specs.declared.Refusal.TheVariants.{StrangeDraft, DraftOpen, NoDocument, BadPart, TooLong, TextFull, RecordsShort, NumbersSpent}
 use Rattle.text_shelf.specs.Shelves.{Brought, Told}
 use Rattle.text_shelf.specs.Rules.{Rules, refusal}
 use Rattle.text_shelf.specs.declared.call.Call.{Call}

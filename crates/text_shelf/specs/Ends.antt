@@ -2,9 +2,9 @@
 use Rattle.std.specs.Prelude.{ℕ, ◌+◌, ◌||◌, [], ◌∷◌, nat_lt}
 use Rattle.rope_keep.specs.Kept.{add_need}
 use Rattle.shelf_view.specs.Documents.{most}
-use Rattle.shelf_view.specs.Refusals.{Reasons}
+use Rattle.refusal.specs.Refusals.{Reasons}
 use Rattle.shelf_view.specs.State.{State}
-use Rattle.shelf_view.specs.declared.refusal.Refusal.TheVariants.{TooLong, TextFull, RecordsShort, NumbersSpent}
+use Rattle.refusal.specs.declared.Refusal.TheVariants.{TooLong, TextFull, RecordsShort, NumbersSpent}
 use Rattle.text_shelf.specs.Shelves.{Brought, Told}
 use Rattle.text_shelf.specs.Calls.{text_full, records_short, numbers_spent}
 

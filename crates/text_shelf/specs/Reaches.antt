@@ -4,8 +4,8 @@ use Rattle.std.specs.Option.{option_map}
 use Rattle.rope.specs.Arena.{Root}
 use Rattle.rope.specs.Lents.{Fills}
 use Rattle.rope.specs.declared.record.Record.{Record}
-use Rattle.shelf_view.specs.declared.refusal.Refusal.{Refusal}
-use Rattle.shelf_view.specs.declared.refusal.Refusal.TheVariants.{StrangeDraft}
+use Rattle.refusal.specs.declared.Refusal.{Refusal}
+use Rattle.refusal.specs.declared.Refusal.TheVariants.{StrangeDraft}
 use Rattle.text_shelf.specs.Rules.{Rules}
 use Rattle.text_shelf.specs.Shelves.{Parts, Brought, Fresh, parts}
 use Rattle.text_shelf.specs.Steps.{StepsBy}

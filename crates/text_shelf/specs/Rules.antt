@@ -1,8 +1,8 @@
 -- The rules of an alphabet of calls that change a shelf. What is said of lists of calls is said of any alphabet.
 use Rattle.std.specs.Prelude.{ℕ, Bool, true, false, List, Option}
-use Rattle.shelf_view.specs.Refusals.{Reasons, first}
+use Rattle.refusal.specs.Refusals.{Reasons, first}
 use Rattle.shelf_view.specs.State.{State}
-use Rattle.shelf_view.specs.declared.refusal.Refusal.{Refusal}
+use Rattle.refusal.specs.declared.Refusal.{Refusal}
 use Rattle.text_shelf.specs.Shelves.{Brought, Told}
 use Rattle.text_shelf.specs.declared.call.Answer.{Answer}
 

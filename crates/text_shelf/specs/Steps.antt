@@ -2,7 +2,7 @@
 use Rattle.std.specs.Prelude.{◌≡◌, ℕ, ◌+◌, ◌<◌, ◌≤◌, List, ◌++◌, length, Some, None, Ok, Err, Option, Result, slice_index}
 use Rattle.std.specs.Result.{result_map_both}
 use Rattle.rope.specs.Lents.{Fills}
-use Rattle.shelf_view.specs.declared.refusal.Refusal.{Refusal}
+use Rattle.refusal.specs.declared.Refusal.{Refusal}
 use Rattle.text_shelf.specs.Shelves.{Parts, parts, shelved, brought, told, strings}
 use Rattle.text_shelf.specs.Rules.{Rules, refusal}
 use Rattle.text_shelf.specs.Calls.{every_shelf}

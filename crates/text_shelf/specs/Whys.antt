@@ -1,8 +1,8 @@
 -- Why a shelf refuses: a call, and what calls need.
 use Rattle.std.specs.Prelude.{ℕ, [], ◌∷◌, Option}
-use Rattle.shelf_view.specs.Refusals.{first}
-use Rattle.shelf_view.specs.declared.refusal.Refusal.{Refusal}
-use Rattle.shelf_view.specs.declared.refusal.Refusal.TheVariants.{TextFull, RecordsShort, NumbersSpent}
+use Rattle.refusal.specs.Refusals.{first}
+use Rattle.refusal.specs.declared.Refusal.{Refusal}
+use Rattle.refusal.specs.declared.Refusal.TheVariants.{TextFull, RecordsShort, NumbersSpent}
 use Rattle.text_shelf.specs.Shelves.{parts, brought, told, strings}
 use Rattle.text_shelf.specs.Calls.{reason, text_full, records_short, numbers_spent}
 use Rattle.text_shelf.specs.Ends.{memory, longer}

@@ -7,7 +7,7 @@ use crate::draft::Draft;
 use crate::shelf::Shelf;
 use monoid::Monoid;
 use rope::record::{Record, Root};
-use shelf_view::refusal::Refusal;
+use refusal::Refusal;
 
 /// What a list of calls on a fresh shelf leaves.
 pub struct Outcome<'b, 'a, M: Monoid> {

@@ -3,10 +3,10 @@ use Rattle.std.specs.Prelude.{◌≡◌, ℕ, ◌+◌, ◌<◌, List, [], ◌∷
 use Rattle.decimal.specs.Decimal.{Copied}
 use Rattle.rope.specs.Arena.{Root}
 use Rattle.rope.specs.declared.record.Record.{Record}
-use Rattle.shelf_view.specs.Refusals.{number_of, first}
+use Rattle.refusal.specs.Refusals.{number_of, first}
 use Rattle.shelf_view.specs.State.{bad_part}
-use Rattle.shelf_view.specs.declared.refusal.Refusal.{Refusal}
-use Rattle.shelf_view.specs.declared.refusal.Refusal.TheVariants.{BadPart, TooLong, SmallBuffer}
+use Rattle.refusal.specs.declared.Refusal.{Refusal}
+use Rattle.refusal.specs.declared.Refusal.TheVariants.{BadPart, TooLong, SmallBuffer}
 use Rattle.text_shelf.specs.Shelves.{parts, Fresh}
 use Rattle.text_shelf.specs.declared.shelf.Shelf.{Shelf}
 use Rattle.script.specs.Answers.{TurnsIn}

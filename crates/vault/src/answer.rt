@@ -3,7 +3,7 @@ ghost use Rattle.std.specs.Prelude.{◌≡◌};
 ghost use Rattle.vault.specs.Boundary.{told, told_run};
 
 use script::run::Answered;
-use shelf_view::refusal::Refusal;
+use refusal::Refusal;
 
 /// How many bytes were written.
 #[repr(C)]

@@ -2,7 +2,7 @@
 ghost use Rattle.std.specs.Prelude.{◌≡◌, length};
 ghost use Rattle.zemor.specs.Values.{row};
 ghost use Rattle.zemor.specs.Written.{bytes_of};
-ghost use Rattle.shelf_view.specs.Questions.{Writes};
+ghost use Rattle.refusal.specs.Writing.{Writes};
 ghost use Rattle.shelf_view.specs.Marked.{fingerprint as fingerprint_of, written, in_part, ReadsBack};
 ghost use Rattle.vault.specs.Boundary.{Tells, TellsRun, of_room, of_read_back, Runs};
 
@@ -10,7 +10,7 @@ use crate::answer::{VaultAnswer, VaultRun};
 use monoid::Monoid;
 use rope::record::Record;
 use script::run::{Answered, Marked, MarkedShelf, run_into};
-use shelf_view::refusal::Refusal;
+use refusal::Refusal;
 use shelf_view::window::read_between;
 use text_shelf::shelf::Shelf;
 use zemor::text::fingerprint;

@@ -4,6 +4,9 @@ use Rattle.std.specs.Prelude.{slice_index}
 use Rattle.std.specs.Char.{is_ascii_uppercase}
 use Rattle.std.specs.List.{list_any, AllPass}
 use Rattle.std.specs.Result.{result_ok}
+use Rattle.std.specs.Option.{ok_or}
+use Rattle.refusal.specs.declared.Refusal.{Refusal}
+use Rattle.refusal.specs.declared.Refusal.TheVariants.{BadFingerprint}
 use Rattle.std.specs.Int.Digits.{number_from_digits, AllBelowBase}
 use Rattle.std.proofs.lemmas.List.{take_all, take-append-drop, drop-drop, length-take-le, length-drop}
 use Rattle.std.proofs.lemmas.List.Elements.{All-head, All-tail}
@@ -112,9 +115,9 @@ pub bytes_read : (x : Sl2) (bs : List ℕ) → bs ≡ bytes_of (row x) → read_
 bytes_read x bs e = ap read_bytes e ∙ ap sl2.check_row (entries_back x) ∙ back x
 
 -- what is read of sixteen bytes writes them again
-pub bytes_again : (bs : List ℕ) (o : Option Sl2) → length bs ≡ 16 → all_bytes bs ≡ true → o ≡ read_bytes bs → ReadBytes bs o
+pub bytes_again : (bs : List ℕ) (o : Option Sl2) → length bs ≡ 16 → all_bytes bs ≡ true → o ≡ read_bytes bs → ReadBytes bs (ok_or o BadFingerprint)
 bytes_again bs (Some x) h all is = let r = exact (entries_of bs) x (sym is) in (r, ap bytes_of r ∙ bytes_back bs h all)
-bytes_again bs None h all is = none_invalid (entries_of bs) (sym is)
+bytes_again bs None h all is = (refl, none_invalid (entries_of bs) (sym is))
 
 digit_back : (k : ℕ) → k < 16 → hex_value (hex_digit k) ≡ k
 digit_back k h = grind (arith, by_tests)
@@ -236,13 +239,13 @@ no_upper (c ∷ cs) all =
 text_read : (text : List ℕ) → length text ≡ 32 → all_hex text ≡ true → decode_sized text 16 ≡ Ok (unhex text)
 text_read text h all = decode_sized-twice text 16 h ∙ decode_of-even text (omega arith) ∙ pairs_read 0 16 text h all
 
-pub decoded : (text : List ℕ) (r : Result (List ℕ) FromHexError) → r ≡ decode_sized text 16 → list_any is_ascii_uppercase text ≡ false → Decoded text (result_ok r)
+pub decoded : (text : List ℕ) (r : Result (List ℕ) FromHexError) → r ≡ decode_sized text 16 → list_any is_ascii_uppercase text ≡ false → Decoded text (ok_or (result_ok r) BadFingerprint)
 decoded text (Ok bs) is none =
     let found = (IsOk-decode_sized text 16).0 (rw (sym is) refl) in
     let all = all_lower text found.1 none in
     let same : ◌≡◌ {A = Result (List ℕ) FromHexError} (Ok bs) (Ok (unhex text)) = is ∙ text_read text found.0 all in
     (found.0, all, cc same)
-decoded text (Err e) is none = λ h. let same = is ∙ text_read text h.0 h.1 in cc same
+decoded text (Err e) is none = (refl, λ h. let same = is ∙ text_read text h.0 h.1 in cc same)
 
 -- 32 digits are read by their bytes, and no other text is
 digits_read : (text : List ℕ) → length text ≡ 32 → all_hex text ≡ true → read_hex text ≡ read_bytes (unhex text)
@@ -257,8 +260,8 @@ others_unread text n =
     none_where (eqb (length text) 32 && all_hex text) (read_bytes (unhex text))
     (λ e. let p = and_parts (eqb (length text) 32) (all_hex text) e in n (eqb-true _ _ p.0, p.1))
 
-pub hex_read : (text bs : List ℕ) (o : Option Sl2) → Decoded text (Some bs) → o ≡ read_bytes bs → o ≡ read_hex text
-hex_read text bs o d is = is ∙ ap read_bytes d.2 ∙ sym (digits_read text d.0 d.1)
+pub hex_read : (text bs : List ℕ) → Decoded text (Ok bs) → read_bytes bs ≡ read_hex text
+hex_read text bs d = ap read_bytes d.2 ∙ sym (digits_read text d.0 d.1)
 
 -- a value's digits are well formed, and are read as it
 pub hex_back : (x : Sl2) → WellFormed (hex (bytes_of (row x))) × (read_hex (hex (bytes_of (row x))) ≡ Some x)
@@ -271,14 +274,14 @@ hex_back x =
     )
 
 -- what is read of a text writes it again
-pub hex_again : (text bs : List ℕ) (o : Option Sl2) → Decoded text (Some bs) → ReadBytes bs o → ReadHex text o
-hex_again text bs (Some x) d r =
+pub hex_again : (text bs : List ℕ) (o : Result Sl2 Refusal) → Decoded text (Ok bs) → ReadBytes bs o → ReadHex text o
+hex_again text bs (Ok x) d r =
     let is : row x ≡ entries_of (unhex text) = r.0 ∙ ap entries_of d.2 in (
       (d.0, (d.1, like x (entries_of (unhex text)) (sym is))),
       is,
       ap hex (r.1 ∙ d.2) ∙ hex_unhex 16 text d.0 d.1,
     )
-hex_again text bs None d r = λ w. r (rw d.2 w.1.1)
+hex_again text bs (Err e) d r = (r.0, λ w. r.1 (rw d.2 w.1.1))
 
 digit_ascii : (k : ℕ) → k < 16 → hex_digit k < 128
 digit_ascii k h = grind (arith, by_tests)

@@ -1,6 +1,8 @@
 -- The written forms of a fingerprint.
-use Rattle.std.specs.Prelude.{◌≡◌, ℕ, ◌+◌, ◌-◌, ◌*◌, ◌/◌, ◌%◌, Bool, true, cond, ◌&&◌, ◌||◌, ◌==◌, List, [], ◌∷◌, ◌++◌, length, take, drop, Some, None, Option, nat_le, nat_lt}
+use Rattle.std.specs.Prelude.{◌≡◌, ℕ, ◌+◌, ◌-◌, ◌*◌, ◌/◌, ◌%◌, Bool, true, cond, ◌&&◌, ◌||◌, ◌==◌, List, [], ◌∷◌, ◌++◌, length, take, drop, None, Ok, Err, Option, Result, nat_le, nat_lt}
 use Rattle.std.specs.Int.Digits.{number_from_digits}
+use Rattle.refusal.specs.declared.Refusal.{Refusal}
+use Rattle.refusal.specs.declared.Refusal.TheVariants.{BadFingerprint}
 use Rattle.zemor.specs.Matrix.{matrix}
 use Rattle.zemor.specs.Bits.{digits_in}
 use Rattle.zemor.specs.Values.{sl2, row, Valid}
@@ -53,16 +55,16 @@ abbrev pub WellFormed : List ℕ → Type 0
 WellFormed text = (length text ≡ 32) × ((all_hex text ≡ true) × Valid (entries_of (unhex text)))
 
 -- the value that the bytes write, which writes them again; or they write no value
-abbrev pub ReadBytes : List ℕ → Option Sl2 → Type 0
-ReadBytes bs (Some x) = (row x ≡ entries_of bs) × (bytes_of (row x) ≡ bs)
-ReadBytes bs None = ¬ (Valid (entries_of bs))
+abbrev pub ReadBytes : List ℕ → Result Sl2 Refusal → Type 0
+ReadBytes bs (Ok x) = (row x ≡ entries_of bs) × (bytes_of (row x) ≡ bs)
+ReadBytes bs (Err e) = (e ≡ BadFingerprint) × ¬ (Valid (entries_of bs))
 
 -- the value that a well-formed text writes, which writes it again; or the text is not well formed
-abbrev pub ReadHex : List ℕ → Option Sl2 → Type 0
-ReadHex text (Some x) = WellFormed text × (row x ≡ entries_of (unhex text)) × (hex (bytes_of (row x)) ≡ text)
-ReadHex text None = ¬ (WellFormed text)
+abbrev pub ReadHex : List ℕ → Result Sl2 Refusal → Type 0
+ReadHex text (Ok x) = WellFormed text × (row x ≡ entries_of (unhex text)) × (hex (bytes_of (row x)) ≡ text)
+ReadHex text (Err e) = (e ≡ BadFingerprint) × ¬ (WellFormed text)
 
 -- the bytes that 32 digits write, if they are digits
-abbrev pub Decoded : List ℕ → Option (List ℕ) → Type 0
-Decoded text (Some bs) = (length text ≡ 32) × (all_hex text ≡ true) × (bs ≡ unhex text)
-Decoded text None = ¬ ((length text ≡ 32) × (all_hex text ≡ true))
+abbrev pub Decoded : List ℕ → Result (List ℕ) Refusal → Type 0
+Decoded text (Ok bs) = (length text ≡ 32) × (all_hex text ≡ true) × (bs ≡ unhex text)
+Decoded text (Err e) = (e ≡ BadFingerprint) × ¬ ((length text ≡ 32) × (all_hex text ≡ true))

@@ -6,6 +6,7 @@ mod tests {
     use monoid::Monoid;
     use monoid::karp_rabin::{KarpRabin, KarpRabinRow, text};
     use monoid::pair::Pair;
+    use refusal::Refusal;
     use zemor::matrix::{Entries, Sl2};
     use zemor::peel::ops::peel;
     use zemor::text::fingerprint;
@@ -25,13 +26,13 @@ mod tests {
     fn tells(front: &[u8], wanted: Entries, back: &[u8], window: &[u8]) -> bool {
         let whole = Sl2::from_row(wanted);
         let told = read_back(fingerprint(front), whole, fingerprint(back));
-        told.is_some_and(|w| w.as_slice() == window)
+        told.is_ok_and(|w| w.as_slice() == window)
     }
 
     // Whether reading back between `front` and `back` finds no window.
     fn tells_none(front: &[u8], wanted: Entries, back: &[u8]) -> bool {
         let whole = Sl2::from_row(wanted);
-        read_back(fingerprint(front), whole, fingerprint(back)).is_none()
+        read_back(fingerprint(front), whole, fingerprint(back)).is_err_and(|e| e == Refusal::NoWindow)
     }
 
     // The word and the length of the bits that are told.
@@ -39,7 +40,7 @@ mod tests {
         peel(Sl2::from_row(e)).map(|s| (s.word, s.len))
     }
 
-    fn read(text: &[u8]) -> Option<Entries> {
+    fn read(text: &[u8]) -> Result<Entries, Refusal> {
         Sl2::from_hex(text).map(|x| x.to_row())
     }
 

@@ -1,6 +1,6 @@
 ghost use Rattle.std.specs.Prelude.{◌≡◌, ◌+◌, length};
 ghost use Rattle.std.specs.List.{between};
-ghost use Rattle.shelf_view.specs.Refusals.{Answers};
+ghost use Rattle.refusal.specs.Refusals.{Answers};
 ghost use Rattle.shelf_view.specs.State.{shown, strings, text_at};
 ghost use Rattle.shelf_view.specs.Questions.{of_part, of_copy, of_same};
 ghost use Rattle.shelf_view.specs.Places.{Within};
@@ -9,7 +9,7 @@ ghost use Rattle.shelf_view.specs.Marked.{fingerprint, Compares, Around, in_part
 use super::View;
 use super::part::Part;
 use crate::marked::Marked;
-use crate::refusal::Refusal;
+use refusal::Refusal;
 use crate::sameness::Sameness;
 use crate::window::read_between;
 use rope_read::text::Text;

@@ -1,5 +1,5 @@
 ghost use Rattle.std.specs.Prelude.{◌≡◌};
-ghost use Rattle.shelf_view.specs.Refusals.{Answers};
+ghost use Rattle.refusal.specs.Refusals.{Answers};
 ghost use Rattle.shelf_view.specs.State.{shown, strings};
 ghost use Rattle.shelf_view.specs.Questions.{of_document, of_draft, of_part};
 ghost use Rattle.shelf_view.specs.Places.{Lies, Span, Drafts};
@@ -7,7 +7,7 @@ ghost use Rattle.shelf_view.specs.Places.{Lies, Span, Drafts};
 use super::View;
 use super::part::Part;
 use crate::draft_id::DraftId;
-use crate::refusal::Refusal;
+use refusal::Refusal;
 use monoid::Monoid;
 use rope::record::Root;
 use rope_read::text::Text;

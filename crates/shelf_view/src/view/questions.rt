@@ -1,13 +1,14 @@
 ghost use Rattle.std.specs.Prelude.{◌≡◌, ◌-◌, ◌≤◌, length, slice_index, slice_index_or};
 ghost use Rattle.std.specs.List.{between};
 ghost use Rattle.monoid.specs.Monoid.{fold_of};
-ghost use Rattle.shelf_view.specs.Refusals.{Answers};
+ghost use Rattle.refusal.specs.Refusals.{Answers};
 ghost use Rattle.shelf_view.specs.State.{shown, strings, heights_of, height_of_draft, kept_values, draft_value, text_at, draft_text};
-ghost use Rattle.shelf_view.specs.Questions.{of_document, of_draft, of_byte, of_part, of_copy, Writes};
+ghost use Rattle.shelf_view.specs.Questions.{of_document, of_draft, of_byte, of_part, of_copy};
+ghost use Rattle.refusal.specs.Writing.{Writes};
 
 use super::View;
 use crate::draft_id::DraftId;
-use crate::refusal::Refusal;
+use refusal::Refusal;
 use monoid::Monoid;
 use rope_read::text::Text;
 

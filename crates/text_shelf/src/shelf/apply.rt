@@ -8,7 +8,7 @@ use crate::call::{Answer, Call};
 use crate::draft::Draft;
 use monoid::Monoid;
 use shelf_view::draft_id::DraftId;
-use shelf_view::refusal::Refusal;
+use refusal::Refusal;
 
 /// Lets go of the draft that a refused call hands back.
 fn refused(refusal: (Refusal, Draft)) -> Refusal

@@ -7,7 +7,7 @@ use crate::draft::Draft;
 use monoid::Monoid;
 use rope_keep::lengthen;
 use shelf_view::draft_id::DraftId;
-use shelf_view::refusal::Refusal;
+use refusal::Refusal;
 
 impl<'b, 'a, M: Monoid> Shelf<'b, 'a, M> {
     /// Starts an empty draft.

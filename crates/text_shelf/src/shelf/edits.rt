@@ -5,7 +5,7 @@ use super::Shelf;
 use monoid::Monoid;
 use rope_cut::{cut, splice};
 use rope_keep::{keep, take_part};
-use shelf_view::refusal::Refusal;
+use refusal::Refusal;
 
 impl<'b, 'a, M: Monoid> Shelf<'b, 'a, M> {
     /// Appends `text` as a document, and answers its number.

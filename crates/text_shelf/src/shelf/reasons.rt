@@ -1,5 +1,5 @@
 ghost use Rattle.std.specs.Prelude.{◌≡◌, ◌≤◌, ⊤};
-ghost use Rattle.shelf_view.specs.Refusals.{Answers};
+ghost use Rattle.refusal.specs.Refusals.{Answers};
 ghost use Rattle.shelf_view.specs.Places.{Lies, Span, Drafts};
 ghost use Rattle.rope_cut.specs.Parts.{edit_need as need_of_edit};
 ghost use Rattle.rope_keep.specs.Kept.{need_of_text};
@@ -11,7 +11,7 @@ use super::Shelf;
 use monoid::Monoid;
 use rope::record::Root;
 use shelf_view::draft_id::DraftId;
-use shelf_view::refusal::Refusal;
+use refusal::Refusal;
 use shelf_view::view::part::Part;
 
 /// The longest text that a call may bring.

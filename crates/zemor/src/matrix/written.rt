@@ -2,6 +2,8 @@
 ghost use Rattle.std.specs.Prelude.{◌≡◌, Some, true, length};
 ghost use Rattle.std.specs.Char.{is_ascii_uppercase};
 ghost use Rattle.std.specs.List.{list_any};
+ghost use Rattle.std.specs.Option.{ok_or};
+ghost use Rattle.refusal.specs.declared.Refusal.TheVariants.{BadFingerprint};
 ghost use Rattle.monoid.specs.Monoid.{all_bytes};
 ghost use Rattle.zemor.specs.Values.{row};
 ghost use Rattle.zemor.specs.Written.{bytes_of, entries_of, hex, read_bytes, read_hex, ReadBytes, Decoded, ReadHex, WellFormed};
@@ -9,6 +11,7 @@ ghost use Rattle.zemor.specs.Written.{bytes_of, entries_of, hex, read_bytes, rea
 use super::{Entries, Sl2};
 use hex::FromHex;
 use monoid::Monoid;
+use refusal::Refusal;
 use std::{fmt, str};
 
 // Written forms are pairs of named functions, as `to_be_bytes` and `from_be_bytes` are, and no `From`: a name says which
@@ -29,12 +32,12 @@ impl Sl2 {
         ]
     }
 
-    /// The value that sixteen bytes write, or none where they write no value.
-    pub fn from_bytes(bytes: [u8; 16]) -> Option<Sl2>
-        ensures value { result ≡ read_bytes bytes }
+    /// The value that sixteen bytes write. Refused with BAD FINGERPRINT exactly where they write no value.
+    pub fn from_bytes(bytes: [u8; 16]) -> Result<Sl2, Refusal>
+        ensures value { result ≡ ok_or (read_bytes bytes) BadFingerprint }
         ensures again { ReadBytes bytes result }
     {
-        Sl2::check_row(read_entries(&bytes))
+        Sl2::check_row(read_entries(&bytes)).ok_or(Refusal::BadFingerprint)
     }
 
     /// The sixteen bytes as 32 lower-case hexadecimal digits.
@@ -47,9 +50,10 @@ impl Sl2 {
         text
     }
 
-    /// The value that a text of 32 lower-case hexadecimal digits writes, or none where the text is not well formed.
-    pub fn from_hex(text: &[u8]) -> Option<Sl2>
-        ensures value { result ≡ read_hex text.now }
+    /// The value that a text of 32 lower-case hexadecimal digits writes. Refused with BAD FINGERPRINT exactly where the text
+    /// is not well formed.
+    pub fn from_hex(text: &[u8]) -> Result<Sl2, Refusal>
+        ensures value { result ≡ ok_or (read_hex text.now) BadFingerprint }
         ensures again { ReadHex text.now result }
     {
         Sl2::from_bytes(decode(text)?)
@@ -87,12 +91,14 @@ fn has_uppercase(text: &[u8]) -> bool
 }
 
 /// The sixteen bytes that 32 lower-case hexadecimal digits write.
-fn decode(text: &[u8]) -> Option<[u8; 16]>
+fn decode(text: &[u8]) -> Result<[u8; 16], Refusal>
     ensures { Decoded text.now result }
 {
     // What `hex` reads may be in upper case too.
     if has_uppercase(text) {
-        return None;
+        return Err(Refusal::BadFingerprint);
     }
-    <[u8; 16]>::from_hex(text).ok()
+    <[u8; 16]>::from_hex(text)
+        .ok()
+        .ok_or(Refusal::BadFingerprint)
 }

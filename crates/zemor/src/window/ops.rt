@@ -7,6 +7,7 @@ use crate::matrix::Sl2;
 use crate::peel::Bits;
 use crate::peel::ops::peel;
 use monoid::between;
+use refusal::Refusal;
 
 impl Window {
     /// The window's bytes.
@@ -40,9 +41,10 @@ fn window(x: Sl2) -> Option<Window>
     Some(spelled_bytes(bits))
 }
 
-/// The one window of at most five bytes between two texts, told by the fingerprints of these and of the whole; or none.
-pub fn read_back(front: Sl2, whole: Sl2, back: Sl2) -> Option<Window>
+/// The one window of at most five bytes between two texts, told by the fingerprints of these and of the whole. Refused with
+/// NO WINDOW exactly where none gives the whole that fingerprint.
+pub fn read_back(front: Sl2, whole: Sl2, back: Sl2) -> Result<Window, Refusal>
     ensures { ReadBack front back whole result }
 {
-    window(between(front, whole, back))
+    window(between(front, whole, back)).ok_or(Refusal::NoWindow)
 }

@@ -4,8 +4,8 @@ use Rattle.std.proofs.lemmas.Grind.{common_steps}
 use Rattle.std.proofs.lemmas.List.{take_rest}
 use Rattle.shelf_view.specs.State.{bad_part}
 use Rattle.shelf_view.specs.Marked.{fingerprint, in_part, earlier, of_buffer, ReadsBack}
-use Rattle.shelf_view.specs.declared.refusal.Refusal.TheVariants.{BadPart, SmallBuffer}
-use Rattle.shelf_view.proofs.Firsts.{first_not}
+use Rattle.refusal.specs.declared.Refusal.TheVariants.{BadPart, SmallBuffer}
+use Rattle.refusal.proofs.Firsts.{first_not}
 use Rattle.shelf_view.proofs.Reading.{part_between}
 use Rattle.vault.proofs.calls.read_back.Goals.{then-from-to-via-then-from-to, then-from-to-via-else-from-to+then-to-text}
 use Rattle.vault.proofs.calls.read_back.Goals as goal

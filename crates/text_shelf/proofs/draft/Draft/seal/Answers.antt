@@ -1,5 +1,5 @@
 use Rattle.std.proofs.Common.{refl, arith}
-use Rattle.shelf_view.proofs.Firsts.{first_none}
+use Rattle.refusal.proofs.Firsts.{first_none}
 use Rattle.text_shelf.specs.Shelves.{parts, brought, told, strings}
 use Rattle.text_shelf.specs.Calls.{reasons}
 use Rattle.text_shelf.specs.declared.call.Call.TheVariants.{Seal}

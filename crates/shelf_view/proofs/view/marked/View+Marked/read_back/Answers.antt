@@ -2,8 +2,8 @@ use Rattle.std.proofs.Common.{[], ◌∷◌, length, refl, ap, ◌∙◌, sym, s
 use Rattle.std.proofs.lemmas.Result.{err_from_is_err_and}
 use Rattle.shelf_view.specs.State.{shown, strings, text_at, unknown, bad_part}
 use Rattle.shelf_view.specs.Marked.{in_part, earlier, ReadsBack, of_buffer}
-use Rattle.shelf_view.specs.declared.refusal.Refusal.TheVariants.{NoDocument, BadPart, SmallBuffer}
-use Rattle.shelf_view.proofs.Firsts.{first_stays, first_then}
+use Rattle.refusal.specs.declared.Refusal.TheVariants.{NoDocument, BadPart, SmallBuffer}
+use Rattle.refusal.proofs.Firsts.{first_stays, first_then}
 use Rattle.shelf_view.proofs.Reading.{around_part}
 use Rattle.shelf_view.proofs.view.marked.View+Marked.read_back.Goals as goal
 

@@ -1,7 +1,7 @@
 -- The first reason of a list that holds.
 use Rattle.std.proofs.Common.{◌≡◌, ℕ, Bool, true, false, cond, ◌||◌, [], ◌∷◌, ◌++◌, Some, None, refl, ap, arith}
-use Rattle.shelf_view.specs.Refusals.{Reasons, first}
-use Rattle.shelf_view.specs.declared.refusal.Refusal.{Refusal}
+use Rattle.refusal.specs.Refusals.{Reasons, first}
+use Rattle.refusal.specs.declared.Refusal.{Refusal}
 
 pub first_is : {b : Bool} (r : Refusal) (rs : Reasons) → b ≡ true → first ((b, r) ∷ rs) ≡ Some r
 first_is r rs e = ap (λ c. cond c (Some r) (first rs)) e
