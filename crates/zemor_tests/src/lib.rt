@@ -32,7 +32,8 @@ mod tests {
     // Whether reading back between `front` and `back` finds no window.
     fn tells_none(front: &[u8], wanted: Entries, back: &[u8]) -> bool {
         let whole = Sl2::from_row(wanted);
-        read_back(fingerprint(front), whole, fingerprint(back)).is_err_and(|e| e == Refusal::NoWindow)
+        read_back(fingerprint(front), whole, fingerprint(back)).is_err_and(|e| e
+            == Refusal::NoWindow)
     }
 
     // The word and the length of the bits that are told.
@@ -149,29 +150,30 @@ mod tests {
     fn reads_digits(rt: HostRuntime) {
         let ab = fingerprint(b"ab");
         assert!(rt; ab.to_hex().as_slice() == b"0000014500000240000000e00000018d".as_slice());
-        assert_eq!(rt;
-            read(b"0000014500000240000000e00000018d"),
-            Some(ab.to_row())
-        );
+        assert_eq!(rt; read(b"0000014500000240000000e00000018d"), Ok(ab.to_row()));
         assert_eq!(rt;
             read(b"0000014500000240000000E00000018d"),
-            None,
+            Err(Refusal::BadFingerprint),
             "an upper-case digit"
         );
-        assert_eq!(rt; read(b"0000014500000240000000e00000018"), None, "31 digits");
+        assert_eq!(rt;
+            read(b"0000014500000240000000e00000018"),
+            Err(Refusal::BadFingerprint),
+            "31 digits"
+        );
         assert_eq!(rt;
             read(b"0000014500000240000000e00000018d0"),
-            None,
+            Err(Refusal::BadFingerprint),
             "33 digits"
         );
         assert_eq!(rt;
             read(b"0000014500000240000000e00000018e"),
-            None,
+            Err(Refusal::BadFingerprint),
             "another determinant"
         );
         assert_eq!(rt;
             read(b"7fffffff000000010000000100000000"),
-            None,
+            Err(Refusal::BadFingerprint),
             "an entry p"
         );
         let edge = Entries {
@@ -180,6 +182,6 @@ mod tests {
             c: P - 1,
             d: 0,
         };
-        assert_eq!(rt; read(b"00000000000000017ffffffe00000000"), Some(edge));
+        assert_eq!(rt; read(b"00000000000000017ffffffe00000000"), Ok(edge));
     }
 }
