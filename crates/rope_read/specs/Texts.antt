@@ -1,9 +1,29 @@
--- What a text for reading is.
-use Rattle.std.specs.Prelude.{ℕ, List}
+-- What texts for reading are.
+use Rattle.std.specs.Prelude.{ℕ, Bool, ◌||◌, List, [], ◌∷◌, Option, nat_le, nat_lt, length}
+use Rattle.std.specs.List.{between}
+use Rattle.refusal.specs.Refusals.{first}
+use Rattle.refusal.specs.declared.Refusal.{Refusal}
+use Rattle.refusal.specs.declared.Refusal.TheVariants.{BadPart}
 use Rattle.rope.specs.Arena.{text_of}
 use Rattle.rope.specs.Memory.{seen}
 use Rattle.rope_read.specs.declared.text.Text.{Text}
+use Rattle.rope_read.specs.declared.whole.Whole.{Whole}
 
--- its bytes
+-- the bytes of a whole text
+abbrev pub whole_bytes : {V R : Type 0} {kind : _} → Whole V R kind → List ℕ
+whole_bytes t = text_of (seen t.view) t.root
+
+-- the bytes of a slice are those between its two bounds
 abbrev pub bytes_of : {V R : Type 0} {kind : _} → Text V R kind → List ℕ
-bytes_of t = text_of (seen t.view) t.root
+bytes_of t = between t.from t.to (text_of (seen t.view) t.root)
+
+-- the part a to b is not lawful: a ≤ b ≤ length does not hold
+abbrev pub bad_part : List ℕ → ℕ → ℕ → Bool
+bad_part text a b = nat_lt b a || nat_lt (length text) b
+
+-- why a part of a text is refused, and a byte
+abbrev pub of_bounds : List ℕ → ℕ → ℕ → Option Refusal
+of_bounds text a b = first ((bad_part text a b, BadPart) ∷ [])
+
+abbrev pub of_place : List ℕ → ℕ → Option Refusal
+of_place text i = first ((nat_le (length text) i, BadPart) ∷ [])

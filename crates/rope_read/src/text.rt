@@ -1,18 +1,33 @@
-//! A text of a store, for reading.
-ghost use Rattle.std.specs.Prelude.{◌≡◌, ⊤, true, length};
-ghost use Rattle.rope.specs.Arena.{rooted};
+//! A slice of a text of a store, for reading.
+ghost use Rattle.std.specs.Prelude.{◌≡◌, ◌≤◌, ⊤, true, length};
+ghost use Rattle.rope.specs.Arena.{rooted, text_of};
+ghost use Rattle.rope.specs.Memory.{seen};
 
 use crate::tree::{byte_at, copy_at, fold_at};
 use monoid::Monoid;
+use refusal::Refusal;
 use rope::record::Root;
 use rope::view::View;
 use std::alloc::AllocError;
 
-/// The text at a root, over the memory that a view shows.
+/// The bytes between two places of the text at a root, over the memory that a view shows: what `&str` is to a `String`. A
+/// slice has no height.
 pub struct Text<'v, M: Monoid> {
     view: View<'v, M>,
     root: Root,
+    from: u32,
+    to: u32,
     ghost inside: { rooted (length view.records.now) root ≡ true },
+    ghost ordered: { from ≤ to },
+    ghost within: { to ≤ length (text_of (seen view) root) },
+}
+
+/// Where a text lies, for an edit: a root, and two places of the text there.
+#[derive(Clone, Copy)]
+pub struct Span {
+    pub root: Root,
+    pub from: u32,
+    pub to: u32,
 }
 
 // by hand, as rope's `View`
@@ -29,80 +44,96 @@ impl<'v, M: Monoid> Clone for Text<'v, M> {
 impl<'v, M: Monoid> Copy for Text<'v, M> {}
 
 impl<'v, M: Monoid> Text<'v, M> {
-    ghost use Rattle.std.specs.Prelude.{◌-◌, ◌<◌, ◌≤◌, ◌++◌, drop, slice_index};
+    ghost use Rattle.std.specs.Prelude.{slice_index};
     ghost use Rattle.std.specs.List.{between};
     ghost use Rattle.monoid.specs.Monoid.{fold_of};
-    ghost use Rattle.rope.specs.Tree.{Fewest};
-    ghost use Rattle.rope.specs.Arena.{height_of, kept_of};
-    ghost use Rattle.rope.specs.Memory.{seen};
-    ghost use Rattle.rope_read.specs.Texts.{bytes_of};
+    ghost use Rattle.refusal.specs.Refusals.{Answers};
+    ghost use Rattle.refusal.specs.Writing.{Writes, of_room};
+    ghost use Rattle.rope_read.specs.Texts.{bytes_of, of_bounds, of_place};
 
-    /// The text at `root`.
-    pub fn new(view: View<'v, M>, root: Root) -> Text<'v, M>
-        requires { rooted (length view.records.now) root ≡ true }
-        ensures { (result.view ≡ view.entry) × (result.root ≡ root) }
+    /// The first `len` bytes of the text at a root.
+    pub(crate) fn front(view: View<'v, M>, root: Root, len: u32) -> Text<'v, M>
+        requires root { rooted (length view.records.now) root ≡ true }
+        requires within { len ≤ length (text_of (seen view) root) }
+        ensures place { (result.view ≡ view.entry) × (result.root ≡ root) }
+        ensures bounds { (result.from ≡ 0) × (result.to ≡ len) }
     {
-        Text { view, root }
-    }
-
-    /// How many bytes it has.
-    pub fn len(self) -> u32
-        ensures { result ≡ length (bytes_of self.entry) }
-    {
-        self.root.map_or(0, |i| self.view.record(i).length)
-    }
-
-    /// How high its tree is, which is at most 28 for a text of at most 1,048,576 bytes.
-    pub fn height(self) -> u8
-        ensures value { result ≡ height_of (seen self.entry.view) self.entry.root }
-        ensures fewest { Fewest }
-        ensures low { length (bytes_of self.entry) ≤ 1048576 → result ≤ 28 }
-    {
-        self.root.map_or(0, |i| self.view.record(i).height)
-    }
-
-    /// Its summary, which is kept at its root.
-    pub fn summary(self) -> M
-        ensures kept { result ≡ kept_of M.Monoid.model (seen self.entry.view) self.entry.root }
-        ensures value { result ≡ fold_of M.Monoid.model (bytes_of self.entry) }
-    {
-        self.root
-            .map_or(M::empty(), |i| M::from_row(self.view.record(i).row))
-    }
-
-    /// The byte at the place `at`.
-    pub fn byte(self, at: u32) -> u8
-        requires { at < length (bytes_of self) }
-        ensures { result ≡ slice_index (bytes_of self.entry) at }
-    {
-        match self.root {
-            None => unreachable!(),
-            Some(i) => byte_at(self.view, i, at),
+        Text {
+            view,
+            root,
+            from: 0,
+            to: len,
         }
     }
 
-    // A part is two places and no struct: the tree below asks for parts of it, from or up to a place.
+    /// Where it lies, for an edit.
+    pub fn span(self) -> Span
+        ensures { result ≡ record { root = self.entry.root; from = self.entry.from; to = self.entry.to } }
+    {
+        Span {
+            root: self.root,
+            from: self.from,
+            to: self.to,
+        }
+    }
 
-    /// The fold of the part `a` to `b`.
-    pub fn fold_part(self, a: u32, b: u32) -> M
-        requires { (a ≤ b) × (b ≤ length (bytes_of self)) }
-        ensures { result ≡ fold_of M.Monoid.model (between a b (bytes_of self.entry)) }
+    /// How many bytes it has. Takes constant time.
+    pub fn len(self) -> usize
+        ensures { result ≡ length (bytes_of self.entry) }
+    {
+        (self.to - self.from) as usize
+    }
+
+    /// The part `a` to `b` of it. Refused with BAD PART exactly where a ≤ b ≤ length does not hold. Takes constant time.
+    pub fn part(self, a: usize, b: usize) -> Result<Text<'v, M>, Refusal>
+        ensures { Answers (of_bounds (bytes_of self.entry) a b) (λ t. (t.view ≡ self.entry.view) × (t.root ≡ self.entry.root) × (bytes_of t ≡ between a b (bytes_of self.entry))) result }
+    {
+        if a > b || b > self.len() {
+            return Err(Refusal::BadPart);
+        }
+        Ok(Text {
+            view: self.view,
+            root: self.root,
+            from: self.from + a as u32,
+            to: self.from + b as u32,
+        })
+    }
+
+    /// Its byte at the place `at`. Refused with BAD PART exactly where `at` is not below its length. Takes time in the height
+    /// of its tree.
+    pub fn byte(self, at: usize) -> Result<u8, Refusal>
+        ensures { Answers (of_place (bytes_of self.entry) at) (λ b. b ≡ slice_index (bytes_of self.entry) at) result }
+    {
+        if at >= self.len() {
+            return Err(Refusal::BadPart);
+        }
+        match self.root {
+            None => unreachable!(),
+            Some(i) => Ok(byte_at(self.view, i, self.from + at as u32)),
+        }
+    }
+
+    /// The fold of its bytes. Takes time in the height of its tree.
+    pub fn summary(self) -> M
+        ensures { result ≡ fold_of M.Monoid.model (bytes_of self.entry) }
     {
         match self.root {
             None => M::empty(),
-            // no `map_or` as above: tried, and the proof did not close
-            Some(i) => fold_at(self.view, i, a, b),
+            Some(i) => fold_at(self.view, i, self.from, self.to),
         }
     }
 
-    /// Writes the part `a` to `b` at the start of `out`. What lies behind it stays.
-    pub fn copy_part(self, a: u32, b: u32, out: &mut [u8])
-        requires part { (a ≤ b) × (b ≤ length (bytes_of self)) }
-        requires room { b - a ≤ length out.old }
-        ensures { out.new ≡ between a b (bytes_of self.entry) ++ drop (b - a) out.old }
+    /// Writes it at the start of `out`, and answers its length. What lies behind keeps its bytes. Refused with SMALL BUFFER,
+    /// and `out` as it was, exactly where `out` is shorter. Takes time in its length and the height of its tree.
+    pub fn copy(self, out: &mut [u8]) -> Result<usize, Refusal>
+        ensures { Writes (of_room (length (bytes_of self.entry)) (length out.old)) (bytes_of self.entry) out.old out.new result }
     {
-        if let Some(i) = self.root {
-            copy_at(self.view, i, a, b, out);
+        if out.len() < self.len() {
+            return Err(Refusal::SmallBuffer);
         }
+        if let Some(i) = self.root {
+            copy_at(self.view, i, self.from, self.to, out);
+        }
+        Ok(self.len())
     }
 }

@@ -1,12 +1,8 @@
 use Rattle.std.proofs.Common.{◌≡◌, arith, rules}
 use Rattle.rope.specs.Arena.{height_of}
 use Rattle.rope.specs.Memory.{seen}
-use Rattle.rope.proofs.Heights.{fewest}
 use Rattle.rope_read.proofs.Lows.{height_low}
-use Rattle.rope_read.proofs.text.Text.height.Goals as goal
-
-pub returns-clause-fewest : goal.returns-clause-fewest
-returns-clause-fewest g c = fewest
+use Rattle.rope_read.proofs.whole.Whole.height.Goals as goal
 
 pub returns-clause-low : goal.returns-clause-low
 returns-clause-low g c h =

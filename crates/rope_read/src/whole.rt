@@ -1,0 +1,97 @@
+//! A whole text of a store, for reading.
+ghost use Rattle.std.specs.Prelude.{◌≡◌, ⊤, true, length};
+ghost use Rattle.rope.specs.Tree.{Fewest};
+ghost use Rattle.rope.specs.Arena.{rooted};
+
+use crate::text::Text;
+use monoid::Monoid;
+use rope::record::Root;
+use rope::view::View;
+use std::alloc::AllocError;
+
+/// The whole text at a root, over the memory that a view shows: a document, or a draft. Beside its bytes it has a height, and
+/// keeps its summary.
+pub struct Whole<'v, M: Monoid> {
+    view: View<'v, M>,
+    root: Root,
+    ghost inside: { rooted (length view.records.now) root ≡ true },
+}
+
+// by hand, as rope's `View`
+impl<'v, M: Monoid> Clone for Whole<'v, M> {
+    ghost is_clone = { λ x y. y ≡ x };
+
+    ghost is_infallible = { λ _. ⊤ };
+
+    fn clone(&self) -> Result<Whole<'v, M>, AllocError> {
+        Ok(*self)
+    }
+}
+
+impl<'v, M: Monoid> Copy for Whole<'v, M> {}
+
+impl<'v, M: Monoid> Whole<'v, M> {
+    ghost use Rattle.std.specs.Prelude.{◌≤◌};
+    ghost use Rattle.monoid.specs.Monoid.{fold_of};
+    ghost use Rattle.rope.specs.Arena.{height_of, kept_of};
+    ghost use Rattle.rope.specs.Memory.{seen};
+    ghost use Rattle.rope_read.specs.Texts.{bytes_of, whole_bytes};
+
+    /// The text at `root`. Inner: whoever brings a root answers for it.
+    pub fn new(view: View<'v, M>, root: Root) -> Whole<'v, M>
+        requires { rooted (length view.records.now) root ≡ true }
+        ensures { (result.view ≡ view.entry) × (result.root ≡ root) }
+    {
+        Whole { view, root }
+    }
+
+    /// Where it lies, for an edit.
+    pub fn root(self) -> Root
+        ensures { result ≡ self.entry.root }
+    {
+        self.root
+    }
+
+    /// Its bytes: the slice that is all of it.
+    pub fn text(self) -> Text<'v, M>
+        ensures place { (result.view ≡ self.entry.view) × (result.root ≡ self.entry.root) }
+        ensures value { bytes_of result ≡ whole_bytes self.entry }
+    {
+        Text::front(self.view, self.root, self.length())
+    }
+
+    fn length(self) -> u32
+        ensures { result ≡ length (whole_bytes self.entry) }
+    {
+        self.root.map_or(0, |i| self.view.record(i).length)
+    }
+
+    /// How many bytes it has. Takes constant time.
+    pub fn len(self) -> usize
+        ensures { result ≡ length (whole_bytes self.entry) }
+    {
+        self.length() as usize
+    }
+
+    /// How high its tree is, which is at most 28 for a text of at most 1,048,576 bytes. Takes constant time.
+    pub fn height(self) -> u8
+        ensures value { result ≡ height_of (seen self.entry.view) self.entry.root }
+        ensures low { length (whole_bytes self.entry) ≤ 1048576 → result ≤ 28 }
+    {
+        self.root.map_or(0, |i| self.view.record(i).height)
+    }
+
+    /// Its summary, which is kept at its root. Takes constant time.
+    pub fn summary(self) -> M
+        ensures kept { result ≡ kept_of M.Monoid.model (seen self.entry.view) self.entry.root }
+        ensures value { result ≡ fold_of M.Monoid.model (whole_bytes self.entry) }
+    {
+        self.root
+            .map_or(M::empty(), |i| M::from_row(self.view.record(i).row))
+    }
+}
+
+/// The fewest bytes of a tree of each height: hence the bound of 28.
+pub fn heights_stand()
+    ensures { Fewest }
+{}
