@@ -1,5 +1,5 @@
 -- What texts for reading are.
-use Rattle.std.specs.Prelude.{ℕ, Bool, ◌||◌, List, [], ◌∷◌, Option, nat_le, nat_lt, length}
+use Rattle.std.specs.Prelude.{◌≡◌, ℕ, ◌+◌, Bool, ◌||◌, List, [], ◌∷◌, Option, nat_le, nat_lt, length}
 use Rattle.std.specs.List.{between}
 use Rattle.refusal.specs.Refusals.{first}
 use Rattle.refusal.specs.declared.Refusal.{Refusal}
@@ -27,3 +27,11 @@ of_bounds text a b = first ((bad_part text a b, BadPart) ∷ [])
 
 abbrev pub of_place : List ℕ → ℕ → Option Refusal
 of_place text i = first ((nat_le (length text) i, BadPart) ∷ [])
+
+-- t is the part a to b of the slice s: it lies in the same text, so much further on
+pub record IsSlice {V R : Type 0} {kind : _} (s : Text V R kind) (a b : ℕ) (t : Text V R kind) : Type 0 where
+  pub view : t.view ≡ s.view
+  pub root : t.root ≡ s.root
+  pub from : t.from ≡ s.from + a
+  pub to : t.to ≡ s.from + b
+  pub bytes : bytes_of t ≡ between a b (bytes_of s)

@@ -44,12 +44,11 @@ impl<'v, M: Monoid> Clone for Text<'v, M> {
 impl<'v, M: Monoid> Copy for Text<'v, M> {}
 
 impl<'v, M: Monoid> Text<'v, M> {
-    ghost use Rattle.std.specs.Prelude.{slice_index};
-    ghost use Rattle.std.specs.List.{between};
+    ghost use Rattle.std.specs.Prelude.{◌+◌, take, drop, slice_index};
     ghost use Rattle.monoid.specs.Monoid.{fold_of};
     ghost use Rattle.refusal.specs.Refusals.{Answers};
     ghost use Rattle.refusal.specs.Writing.{Writes, of_room};
-    ghost use Rattle.rope_read.specs.Texts.{bytes_of, of_bounds, of_place};
+    ghost use Rattle.rope_read.specs.Texts.{bytes_of, of_bounds, of_place, IsSlice};
 
     /// The first `len` bytes of the text at a root.
     pub(crate) fn front(view: View<'v, M>, root: Root, len: u32) -> Text<'v, M>
@@ -86,7 +85,7 @@ impl<'v, M: Monoid> Text<'v, M> {
 
     /// The part `a` to `b` of it. Refused with BAD PART exactly where a ≤ b ≤ length does not hold. Takes constant time.
     pub fn part(self, a: usize, b: usize) -> Result<Text<'v, M>, Refusal>
-        ensures { Answers (of_bounds (bytes_of self.entry) a b) (λ t. (t.view ≡ self.entry.view) × (t.root ≡ self.entry.root) × (bytes_of t ≡ between a b (bytes_of self.entry))) result }
+        ensures { Answers (of_bounds (bytes_of self.entry) a b) (IsSlice self.entry a b) result }
     {
         if a > b || b > self.len() {
             return Err(Refusal::BadPart);
@@ -97,6 +96,36 @@ impl<'v, M: Monoid> Text<'v, M> {
             from: self.from + a as u32,
             to: self.from + b as u32,
         })
+    }
+
+    /// The `n` bytes from the place `a` on. Refused with BAD PART exactly where it has not so many, also where a + n fits no
+    /// number. Takes constant time.
+    pub fn bytes(self, a: usize, n: usize) -> Result<Text<'v, M>, Refusal>
+        ensures { Answers (of_bounds (bytes_of self.entry) a (a + n)) (IsSlice self.entry a (a + n)) result }
+    {
+        let end = a.checked_add(n).ok_or(Refusal::BadPart)?;
+        self.part(a, end)
+    }
+
+    /// What stands before its part `a` to `b`, and what stands behind it. Refused as that part. Takes constant time.
+    pub fn around(self, a: usize, b: usize) -> Result<(Text<'v, M>, Text<'v, M>), Refusal>
+        ensures { Answers (of_bounds (bytes_of self.entry) a b) (λ p. (bytes_of p.0 ≡ take a (bytes_of self.entry)) × (bytes_of p.1 ≡ drop b (bytes_of self.entry))) result }
+    {
+        self.part(a, b)?;
+        let (a, b) = (a as u32, b as u32);
+        let before = Text {
+            view: self.view,
+            root: self.root,
+            from: self.from,
+            to: self.from + a,
+        };
+        let behind = Text {
+            view: self.view,
+            root: self.root,
+            from: self.from + b,
+            to: self.to,
+        };
+        Ok((before, behind))
     }
 
     /// Its byte at the place `at`. Refused with BAD PART exactly where `at` is not below its length. Takes time in the height

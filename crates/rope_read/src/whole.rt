@@ -55,6 +55,7 @@ impl<'v, M: Monoid> Whole<'v, M> {
     /// Its bytes: the slice that is all of it.
     pub fn text(self) -> Text<'v, M>
         ensures place { (result.view ≡ self.entry.view) × (result.root ≡ self.entry.root) }
+        ensures bounds { (result.from ≡ 0) × (result.to ≡ length (whole_bytes self.entry)) }
         ensures value { bytes_of result ≡ whole_bytes self.entry }
     {
         Text::front(self.view, self.root, self.length())

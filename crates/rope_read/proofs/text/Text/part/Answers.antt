@@ -11,5 +11,11 @@ returns g c =
     let t = c.args.self in
     let xs = text_of (seen t.view) t.root in (
       lawful_bounds (bytes_of t) c.args.a c.args.b c.if-a-b.false (omega arith),
-      (refl, refl, part_of_part xs t.from t.to c.args.a c.args.b (omega (arith, length-between xs t.from t.to t.within))),
+      record {
+        view = refl;
+        root = refl;
+        from = refl;
+        to = refl;
+        bytes = part_of_part xs t.from t.to c.args.a c.args.b (omega (arith, length-between xs t.from t.to t.within));
+      },
     )
