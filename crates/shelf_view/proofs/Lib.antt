@@ -1,4 +1,3 @@
-pub mod Copying
 pub mod Marking
 pub mod Placing
 pub mod Reading

@@ -1,8 +1,8 @@
 -- Fingerprints of parts, and what they tell.
-use Rattle.std.proofs.Common.{◌≡◌, ℕ, zero, suc, ◌+◌, ◌-◌, ◌≤◌, true, List, [], ◌∷◌, map, length, get_or, drop, Some, None, sym, refl, ap, ◌∙◌, append-nil, arith, length-take}
+use Rattle.std.proofs.Common.{◌≡◌, ℕ, ◌+◌, ◌-◌, ◌≤◌, true, List, [], length, drop, Some, None, sym, refl, ap, ◌∙◌, subst, append-nil, arith}
 use Rattle.std.specs.List.{between}
-use Rattle.std.proofs.lemmas.Bool.{and_parts}
-use Rattle.std.proofs.lemmas.Bool.Decides.{nat_tests}
+use Rattle.std.proofs.lemmas.List.Edits.{length-between}
+use Rattle.std.proofs.lemmas.Bool.{ltb-true}
 use Rattle.std.proofs.lemmas.Grind.{common_steps}
 use Rattle.monoid.specs.Monoid.{fold_of, all_bytes}
 use Rattle.monoid.specs.LineColumnValues.{line_column_model}
@@ -15,22 +15,31 @@ use Rattle.zemor.specs.Values.{sl2}
 use Rattle.zemor.specs.declared.matrix.Sl2.{Sl2}
 use Rattle.zemor.proofs.Texts.{slips_show, length_text_bits}
 use Rattle.rope.specs.Tree.{Tree, leaf, node, text, lawful}
-use Rattle.rope.specs.Arena.{Arena, Root, Sound, tree_at, text_of}
+use Rattle.rope.specs.Arena.{Arena, Root, Sound, tree_at, text_of, rooted}
+use Rattle.rope.specs.Memory.{seen}
+use Rattle.rope_read.specs.Texts.{bytes_of}
+use Rattle.rope_read.specs.declared.text.Text.{Text}
 use Rattle.rope.proofs.Readings.{leaf_facts, node_facts, lawful_at}
-use Rattle.shelf_view.specs.Documents.{fine, all_fine}
-use Rattle.shelf_view.specs.State.{State, Shelved, state_of, text_at}
-use Rattle.shelf_view.specs.Questions.{of_part, of_same}
-use Rattle.shelf_view.specs.Marked.{marked, fingerprint}
+use Rattle.shelf_view.specs.Documents.{fine}
+use Rattle.shelf_view.specs.State.{State, text_at}
+use Rattle.rope_read.specs.Texts.{of_bounds}
+use Rattle.rope_read.proofs.Slices.{bounds_lawful}
+use Rattle.shelf_view.specs.Questions.{of_document, of_same}
+use Rattle.shelf_view.specs.Marked.{marked, fingerprint, Compares}
+use Rattle.shelf_view.specs.declared.sameness.Sameness.{Sameness}
 use Rattle.shelf_view.proofs.Placing.{root_of}
 
 tree_bytes : (t : Tree) → lawful t ≡ true → all_bytes (text t) ≡ true
 tree_bytes (leaf bs) h = (leaf_facts bs h).bytes
 tree_bytes (node l r) h = let f = node_facts l r h in all_bytes_append (text l) (text r) (tree_bytes l f.left) (tree_bytes r f.right)
 
--- every byte of a document is below 256
+-- every byte of the text at a root is below 256
+rooted_bytes : {R : Type 0} (a : Arena R) (p : Root) → Sound a → rooted (length a.records) p ≡ true → all_bytes (text_of a p) ≡ true
+rooted_bytes a None w r = refl
+rooted_bytes a (Some i) w r = tree_bytes (tree_at a i) (lawful_at a i w (ltb-true i (length a.records) r))
+
 pub root_bytes : {R : Type 0} (a : Arena R) (p : Root) → Sound a → fine a p ≡ true → all_bytes (text_of a p) ≡ true
-root_bytes a None w f = refl
-root_bytes a (Some i) w f = let below = root_of a (Some i) f in tree_bytes (tree_at a i) (lawful_at a i w (grind (arith, nat_tests)))
+root_bytes a p w f = rooted_bytes a p w (root_of a p f)
 
 -- of at most five bytes, equal fingerprints are of equal texts
 pub short_equal : (s t : List ℕ) → all_bytes s ≡ true → all_bytes t ≡ true → length s ≤ 5 → length t ≤ 5 → fingerprint s ≡ fingerprint t → s ≡ t
@@ -50,26 +59,25 @@ short_equal s t hs ht ls lt e =
 pub first_half : (t : List ℕ) (v : Pair Sl2 LineColumn) → v ≡ fold_of marked t → v.first ≡ fingerprint t
 first_half t v is = let first : Pair Sl2 LineColumn → Sl2 = λ q. q.first in ap first (is ∙ fold_pair sl2 line_column_model t)
 
-all_text_bytes : {R : Type 0} (a : Arena R) (ps : List Root) (d : ℕ) → Sound a → all_fine a ps ≡ true → all_bytes (get_or (map (text_of a) ps) d []) ≡ true
-all_text_bytes a [] d w f = refl
-all_text_bytes a (p ∷ ps) zero w f = root_bytes a p w (and_parts (fine a p) (all_fine a ps) f).0
-all_text_bytes a (p ∷ ps) (suc d) w f = all_text_bytes a ps d w (and_parts (fine a p) (all_fine a ps) f).1
+-- every byte of a slice is below 256
+pub slice_bytes : {V R : Type 0} {kind : _} (t : Text V R kind) → all_bytes (bytes_of t) ≡ true
+slice_bytes t =
+    let xs = text_of (seen t.view) t.root in
+    all_bytes_take (t.to - t.from) (drop t.from xs) (all_bytes_drop t.from xs (rooted_bytes (seen t.view) t.root t.view.sound t.inside))
 
-part_bytes : {R : Type 0} (s : Shelved R) (d a b : ℕ) → Sound s.arena → all_fine s.arena s.roots ≡ true → all_bytes (between a b (text_at (state_of s) d)) ≡ true
-part_bytes s zero a b w f = all_bytes_take (b - a) (drop a []) (all_bytes_drop a [] refl)
-part_bytes s (suc d) a b w f =
-    let t = text_at (state_of s) (suc d) in
-    all_bytes_take (b - a) (drop a t) (all_bytes_drop a t (all_text_bytes s.arena s.roots d w f))
+-- slices of at most five bytes with one fingerprint are equal
+pub slices_equal : {V R : Type 0} {kind : _} (one other : Text V R kind) → length (bytes_of one) ≤ 5 → length (bytes_of other) ≤ 5 → fingerprint (bytes_of one) ≡ fingerprint (bytes_of other)
+    → bytes_of one ≡ bytes_of other
+slices_equal one other h k same = short_equal (bytes_of one) (bytes_of other) (slice_bytes one) (slice_bytes other) h k same
 
--- equal fingerprints of parts of at most five bytes
-pub part_equal : {R : Type 0} (s : Shelved R) (d a e b n : ℕ) → Sound s.arena → all_fine s.arena s.roots ≡ true → n ≤ 5
-    → fingerprint (between a (a + n) (text_at (state_of s) d)) ≡ fingerprint (between b (b + n) (text_at (state_of s) e))
-    → between a (a + n) (text_at (state_of s) d) ≡ between b (b + n) (text_at (state_of s) e)
-part_equal s d a e b n w f short =
-    let few : (i j : ℕ) → length (between j (j + n) (text_at (state_of s) i)) ≤ 5 =
-    λ i j. omega (arith, length-take (j + n - j) (drop j (text_at (state_of s) i))) in
-    short_equal (between a (a + n) (text_at (state_of s) d)) (between b (b + n) (text_at (state_of s) e))
-    (part_bytes s d a (a + n) w f) (part_bytes s e b (b + n) w f) (few d a) (few e b)
+-- the n bytes from a of a text are n
+pub stretch_long : {V R : Type 0} {kind : _} (text : List ℕ) (t : Text V R kind) (a n : ℕ) → of_bounds text a (a + n) ≡ None → bytes_of t ≡ between a (a + n) text → length (bytes_of t) ≡ n
+stretch_long text t a n none is = omega (arith, ap length is, length-between text a (a + n) (bounds_lawful text a (a + n) none).1)
 
-pub same_none : (s : State) (d a e b n : ℕ) → of_part s d a (a + n) ≡ None → of_part s e b (b + n) ≡ None → of_same s d a e b n ≡ None
-same_none s d a e b n h k = grind (arith, common_steps)
+-- where both documents are there, and both parts lawful, nothing is refused
+pub same_none : (s : State) (d a e b n : ℕ) → of_document s d ≡ None → of_document s e ≡ None → of_bounds (text_at s d) a (a + n) ≡ None → of_bounds (text_at s e) b (b + n) ≡ None
+    → of_same s d a e b n ≡ None
+same_none s d a e b n h k p q = grind (arith, common_steps)
+
+pub compared : (n : ℕ) (x y u v : List ℕ) (r : Sameness) → length x ≡ n → x ≡ u → y ≡ v → Compares (length x) x y r → Compares n u v r
+compared n x y u v r long ex ey h = subst (λ k. Compares k u v r) long (subst (λ z. Compares (length x) z v r) ex (subst (λ z. Compares (length x) x z r) ey h))

@@ -7,10 +7,12 @@ use Rattle.std.proofs.lemmas.Bool.Decides.{nat_tests}
 use Rattle.monoid.specs.Monoid.{Model}
 use Rattle.rope.specs.Arena.{Arena, Root, text_of, height_of, kept_of, rooted}
 use Rattle.shelf_view.specs.Documents.{fine, all_fine, most}
-use Rattle.shelf_view.specs.State.{Shelved, state_of, unknown}
+use Rattle.rope_read.specs.Texts.{whole_bytes}
+use Rattle.rope_read.specs.declared.whole.Whole.{Whole}
+use Rattle.shelf_view.specs.State.{Shelved, state_of, text_at, unknown}
 use Rattle.refusal.specs.Refusals.{Answers}
 use Rattle.shelf_view.specs.Questions.{of_document}
-use Rattle.shelf_view.specs.Places.{Lies}
+use Rattle.shelf_view.specs.Places.{Lies, IsDocument}
 use Rattle.refusal.specs.declared.Refusal.TheVariants.{NoDocument}
 use Rattle.refusal.proofs.Firsts.{first_is, first_not}
 
@@ -46,3 +48,7 @@ module _ {V R : Type 0} (m : Model V R) (s : Shelved R) where
       let below : i < length s.roots = grind (arith, nat_tests) in
       let known : unknown (state_of s) d ≡ false = grind (arith, nat_tests) in
       (first_not NoDocument [] known, rw e (lies_at i p.now below is all))
+
+-- the text of a document, as its door gives it
+pub document_text : {V R : Type 0} {kind : _} {m : Model V R} {s : Shelved R} {d : ℕ} {w : Whole V R kind} → IsDocument m s d w → whole_bytes w ≡ text_at (state_of s) d
+document_text {w = w} h = ap (λ a. text_of a w.root) h.memory ∙ sym h.lies.text_is

@@ -1,8 +1,5 @@
 -- Reading a window back.
-use Rattle.std.proofs.Common.{◌≡◌, ℕ, ◌<◌, ◌≤◌, List, ◌++◌, length, take, drop, Some, None, Ok, Err, Option, Result, unwrap_or, sym, refl, ap, ◌∙◌, arith}
-use Rattle.std.specs.List.{between}
-use Rattle.std.specs.Option.{ok_or}
-use Rattle.std.proofs.lemmas.Slice.{between_from_start, between_to_end}
+use Rattle.std.proofs.Common.{◌≡◌, ℕ, ◌<◌, ◌≤◌, List, [], ◌∷◌, ◌++◌, length, take, drop, Some, None, Ok, Err, Option, Result, unwrap_or, sym, refl, ap, ◌∙◌, subst, arith}
 use Rattle.std.proofs.lemmas.Bool.Decides.{nat_tests}
 use Rattle.std.proofs.lemmas.Grind.{common_steps}
 use Rattle.monoid.specs.Monoid.{fold_of}
@@ -12,19 +9,22 @@ use Rattle.monoid.proofs.Folds.{fold_append}
 use Rattle.zemor.specs.Values.{sl2}
 use Rattle.zemor.specs.Windows as window
 use Rattle.zemor.specs.Windows.{ReadBack, window_text}
-use Rattle.zemor.specs.Written.{read_hex, WellFormed, ReadHex}
+use Rattle.zemor.specs.Written.{read_hex, ReadHex}
 use Rattle.zemor.specs.declared.matrix.Entries.{Entries}
 use Rattle.zemor.specs.declared.matrix.Sl2.{Sl2}
 use Rattle.zemor.specs.declared.window.Window.{Window}
 use Rattle.zemor.specs.Laws.{lawful}
 use Rattle.zemor.proofs.Writing.{hex_back}
-use Rattle.rope.specs.Arena.{text_of}
-use Rattle.shelf_view.specs.State.{Shelved, state_of, text_at}
-use Rattle.shelf_view.specs.Places.{Span}
-use Rattle.shelf_view.specs.Marked.{marked, fingerprint, written, in_part, in_between, Gives, earlier, misshapen, none_gives, ReadsBack, of_buffer, Around}
+use Rattle.refusal.specs.Writing.{Writes, of_room}
+use Rattle.refusal.proofs.Room.{long_enough}
+use Rattle.rope_read.specs.Texts.{bytes_of, bad_part, of_bounds}
+use Rattle.rope_read.specs.declared.text.Text.{Text}
+use Rattle.refusal.proofs.Firsts.{passed, first_not}
+use Rattle.shelf_view.specs.Questions.{of_document, of_part}
+use Rattle.shelf_view.specs.State.{State, Shelved, state_of, text_at, unknown}
+use Rattle.shelf_view.specs.Marked.{marked, fingerprint, written, in_part, in_between, Gives, earlier, misshapen, none_gives, ReadsBack, of_buffer}
 use Rattle.refusal.specs.declared.Refusal.{Refusal}
-use Rattle.refusal.specs.declared.Refusal.TheVariants.{SmallBuffer, BadFingerprint, NoWindow}
-use Rattle.shelf_view.specs.declared.view.part.Part.{Part}
+use Rattle.refusal.specs.declared.Refusal.TheVariants.{NoDocument, BadPart, SmallBuffer}
 use Rattle.shelf_view.proofs.Marking.{first_half}
 
 -- a fingerprint is told by its digits
@@ -46,41 +46,57 @@ module _ (digits : List ℕ) (x front back : Sl2) (is : written x ≡ digits) wh
   by_digits : (w : List ℕ) → window.Gives front back x w → Gives (in_between front back) digits w
   by_digits w g = record { short = g.short; same = ap written g.whole ∙ is }
 
--- the refusal of an `ok_or`
-pub refused_as : {A : Type 0} (o : Option A) {e why : Refusal} → ◌≡◌ {A = Result A Refusal} (Err e) (ok_or o why) → e ≡ why
-refused_as None h = cc
-refused_as (Some x) h = cc
-
-module _ (n : ℕ) (old digits : List ℕ) (front back : Sl2) where
-  pub refused_buffer : n < 5 → ReadsBack (of_buffer n) (in_between front back) digits old old (Err SmallBuffer)
+module _ (old digits : List ℕ) (front back : Sl2) where
+  pub refused_buffer : length old < 5 → ReadsBack (of_buffer (length old)) (in_between front back) digits old old (Err SmallBuffer)
   refused_buffer k = (earlier (grind (arith, common_steps, nat_tests)), refl)
 
-  enough : 5 ≤ n → of_buffer n ≡ None
+  enough : 5 ≤ length old → of_buffer (length old) ≡ None
   enough k = grind (arith, common_steps, nat_tests)
 
-  pub refused_form : 5 ≤ n → ¬ (WellFormed digits) → ReadsBack (of_buffer n) (in_between front back) digits old old (Err BadFingerprint)
-  refused_form k bad = (misshapen (enough k) bad, refl)
+  module _ (k : 5 ≤ length old) where
+    pub refused_form : (e : Refusal) → ReadHex digits (Err e) → ReadsBack (of_buffer (length old)) (in_between front back) digits old old (Err e)
+    refused_form e r =
+        subst (λ z. ReadsBack (of_buffer (length old)) (in_between front back) digits old old (Err z)) (sym r.0) (misshapen (enough k) r.1, refl)
 
-  module _ (x : Sl2) (k : 5 ≤ n) (r : ReadHex digits (Some x)) where
-    pub refused_window : ReadBack front back x None → ReadsBack (of_buffer n) (in_between front back) digits old old (Err NoWindow)
-    refused_window none = (none_gives (enough k) r.0 (λ w g. none w (by_value digits x front back r.2 w g)), refl)
+    module _ (x : Sl2) (r : ReadHex digits (Ok x)) where
+      pub refused_window : (e : Refusal) → ReadBack front back x (Err e) → ReadsBack (of_buffer (length old)) (in_between front back) digits old old (Err e)
+      refused_window e none =
+          subst (λ z. ReadsBack (of_buffer (length old)) (in_between front back) digits old old (Err z)) (sym none.0)
+          (none_gives (enough k) r.0 (λ w g. none.1 w (by_value digits x front back r.2 w g)), refl)
 
-    pub told : (w : Window) (m : ℕ) (new : List ℕ) → ReadBack front back x (Some w) → m ≡ length (window_text w) → new ≡ window_text w ++ drop m old
-        → ReadsBack (of_buffer n) (in_between front back) digits old new (Ok m)
-    told w m new some long after =
-        (enough k, r.0, (window_text w, (by_digits digits x front back r.2 (window_text w) some.0, λ v g. some.1 v (by_value digits x front back r.2 v g), long, after)))
+      pub told : (w : Window) (text new : List ℕ) (o : Result ℕ Refusal) → ReadBack front back x (Ok w) → text ≡ window_text w
+          → Writes (of_room (length text) (length old)) text old new o → ReadsBack (of_buffer (length old)) (in_between front back) digits old new o
+      told w text new (Ok m) some is h = (
+        enough k,
+        r.0,
+        (
+          window_text w,
+          (
+            by_digits digits x front back r.2 (window_text w) some.0,
+            λ v g. some.1 v (by_value digits x front back r.2 v g),
+            h.1.0 ∙ ap length is,
+            h.1.2 ∙ ap (λ t. t ++ drop m old) is,
+          ),
+        ),
+      )
+      told w text new (Err e) some is h =
+          let none = long_enough (length text) (length old) (omega (arith, ap length is, some.0.short.few)) in
+          let clash : ◌≡◌ {A = Option Refusal} None (Some e) = sym none ∙ h.0 in
+          absurd (let z : ◌≡◌ {A = ℕ} 0 1 = cc in omega arith)
 
-module _ (s : Shelved (Pair Entries LineColumn)) where
-  pub around : (p : Part) (t : List ℕ) (v w : Pair Sl2 LineColumn) (n : ℕ) → t ≡ text_of s.arena p.root → n ≡ length t
-      → v ≡ fold_of marked (between 0 p.from t) → w ≡ fold_of marked (between p.to n t) → Around s p v.first w.first
-  around p t v w n is long ev ew = (
-    first_half (between 0 p.from t) v ev ∙ ap fingerprint (between_from_start t p.from ∙ ap (take p.from) is),
-    first_half (between p.to n t) w ew ∙ ap fingerprint (between_to_end t p.to n (omega arith) ∙ ap (drop p.to) is),
-  )
+-- what a marked shelf's document is read back from
+module _ {R : Type 0} {kind : _} (s : Shelved R) (d a b : ℕ) (text : List ℕ) (is : text ≡ text_at (state_of s) d)
+    (before behind : Text (Pair Sl2 LineColumn) (Pair Entries LineColumn) kind) (v w : Pair Sl2 LineColumn)
+    (ev : v ≡ fold_of marked (bytes_of before)) (ew : w ≡ fold_of marked (bytes_of behind))
+    (eb : bytes_of before ≡ take a text) (ec : bytes_of behind ≡ drop b text) where
+  pub around_part : in_between v.first w.first ≡ in_part (text_at (state_of s) d) a b
+  around_part =
+      part_between (text_at (state_of s) d) a b v.first w.first
+      (first_half (bytes_of before) v ev ∙ ap fingerprint (eb ∙ ap (take a) is))
+      (first_half (bytes_of behind) w ew ∙ ap fingerprint (ec ∙ ap (drop b) is))
 
-  module _ (d a b : ℕ) (p : Part) (front back : Sl2) (g : Span marked s d a b p) (e : Around s p front back) where
-    pub around_part : in_between front back ≡ in_part (text_at (state_of s) d) a b
-    around_part =
-        part_between (text_at (state_of s) d) a b front back
-        (e.0 ∙ ap (λ i. fingerprint (take i (text_of s.arena p.root))) g.from_is ∙ ap (λ t. fingerprint (take a t)) (sym g.lies.text_is))
-        (e.1 ∙ ap (λ i. fingerprint (drop i (text_of s.arena p.root))) g.to_is ∙ ap (λ t. fingerprint (drop b t)) (sym g.lies.text_is))
+-- where the document is there, its text decides on the part
+pub part_is : (s : State) (d a b : ℕ) (text : List ℕ) → text ≡ text_at s d → of_document s d ≡ None → of_part s d a b ≡ of_bounds text a b
+part_is s d a b text is h =
+    let p = passed (unknown s d) NoDocument [] h in
+    first_not NoDocument ((bad_part (text_at s d) a b, BadPart) ∷ []) p.0 ∙ ap (λ t. of_bounds t a b) (sym is)

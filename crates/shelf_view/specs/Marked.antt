@@ -10,12 +10,9 @@ use Rattle.zemor.specs.Windows.{Short}
 use Rattle.zemor.specs.Written.{hex, bytes_of, WellFormed}
 use Rattle.zemor.specs.declared.matrix.Entries.{Entries}
 use Rattle.zemor.specs.declared.matrix.Sl2.{Sl2}
-use Rattle.rope.specs.Arena.{text_of}
 use Rattle.refusal.specs.Refusals.{first}
-use Rattle.shelf_view.specs.State.{Shelved}
 use Rattle.refusal.specs.declared.Refusal.{Refusal}
 use Rattle.refusal.specs.declared.Refusal.TheVariants.{SmallBuffer, BadFingerprint, NoWindow}
-use Rattle.shelf_view.specs.declared.view.part.Part.{Part}
 use Rattle.shelf_view.specs.declared.sameness.Sameness.{Sameness}
 use Rattle.shelf_view.specs.declared.sameness.Sameness.TheVariants.{Different, Equal, Alike}
 
@@ -65,8 +62,3 @@ ReadsBack why whole digits old new (Err e) = Unread why whole digits e × (new �
 -- why a window is not written, where the buffer has n bytes
 abbrev pub of_buffer : ℕ → Option Refusal
 of_buffer n = first ((nat_lt n 5, SmallBuffer) ∷ [])
-
--- the fingerprints of what stands before and behind a part
-abbrev pub Around : Shelved (Pair Entries LineColumn) → Part → Sl2 → Sl2 → Type 0
-Around s p front back =
-    (front ≡ fingerprint (take p.from (text_of s.arena p.root))) × (back ≡ fingerprint (drop p.to (text_of s.arena p.root)))

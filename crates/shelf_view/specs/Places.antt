@@ -1,5 +1,5 @@
 -- Where a document lies, and what its door gives.
-use Rattle.std.specs.Prelude.{◌≡◌, ℕ, ◌≤◌, true, length, slice_index_or}
+use Rattle.std.specs.Prelude.{◌≡◌, ℕ, true, slice_index_or}
 use Rattle.std.specs.List.{between}
 use Rattle.monoid.specs.Monoid.{Model}
 use Rattle.rope.specs.Arena.{Root, text_of, height_of, kept_of}

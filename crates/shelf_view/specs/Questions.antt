@@ -1,7 +1,8 @@
 -- What each question answers, and why it is refused.
-use Rattle.std.specs.Prelude.{◌≡◌, ℕ, ◌+◌, ◌||◌, List, [], ◌∷◌, ◌++◌, length, drop, Some, None, Ok, Err, Option, Result, nat_le, nat_lt}
+use Rattle.std.specs.Prelude.{ℕ, ◌+◌, ◌||◌, [], ◌∷◌, Option, nat_lt}
 use Rattle.refusal.specs.Refusals.{first}
-use Rattle.shelf_view.specs.State.{State, unknown, text_at, bad_part, strange}
+use Rattle.rope_read.specs.Texts.{bad_part}
+use Rattle.shelf_view.specs.State.{State, unknown, text_at, strange}
 use Rattle.shelf_view.specs.declared.draft_id.DraftId.{DraftId}
 use Rattle.refusal.specs.declared.Refusal.{Refusal}
 use Rattle.refusal.specs.declared.Refusal.TheVariants.{StrangeDraft, NoDocument, BadPart, SmallBuffer}
@@ -14,9 +15,7 @@ of_document s d = first ((unknown s d, NoDocument) ∷ [])
 abbrev pub of_draft : State → ℕ → DraftId → Option Refusal
 of_draft s mark d = first ((strange s mark d, StrangeDraft) ∷ [])
 
-abbrev pub of_byte : State → ℕ → ℕ → Option Refusal
-of_byte s d i = first ((unknown s d, NoDocument) ∷ (nat_le (length (text_at s d)) i, BadPart) ∷ [])
-
+-- about the part a to b of document d
 abbrev pub of_part : State → ℕ → ℕ → ℕ → Option Refusal
 of_part s d a b = first ((unknown s d, NoDocument) ∷ (bad_part (text_at s d) a b, BadPart) ∷ [])
 

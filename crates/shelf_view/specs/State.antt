@@ -1,5 +1,5 @@
 -- What lies on a shelf, as a list of strings, and as trees.
-use Rattle.std.specs.Prelude.{ℕ, Bool, not, ◌&&◌, ◌||◌, List, [], ◌∷◌, map, length, is_some, Option, ◌==◌, nat_le, nat_lt, slice_index_or}
+use Rattle.std.specs.Prelude.{ℕ, Bool, not, ◌&&◌, List, [], ◌∷◌, map, length, is_some, Option, ◌==◌, nat_le, slice_index_or}
 use Rattle.std.specs.Option.{option_map, unwrap_or}
 use Rattle.monoid.specs.Monoid.{Model}
 use Rattle.rope.specs.Arena.{Arena, Root, text_of, height_of, kept_of}
@@ -53,10 +53,6 @@ unknown s d = nat_le (length s.texts) d
 -- the text of document d
 abbrev pub text_at : State → ℕ → List ℕ
 text_at s d = slice_index_or s.texts d []
-
--- the part a to b is not lawful: a ≤ b ≤ length does not hold
-abbrev pub bad_part : List ℕ → ℕ → ℕ → Bool
-bad_part text a b = nat_lt b a || nat_lt (length text) b
 
 -- no draft is open on the shelf of this mark, or the draft's mark or count is another
 abbrev pub strange : State → ℕ → DraftId → Bool

@@ -8,11 +8,10 @@ use rope::record::Root;
 use rope::view::View as RopeView;
 use std::alloc::AllocError;
 
-pub mod base;
-pub mod marked;
-pub mod part;
-pub mod places;
-pub mod questions;
+mod base;
+mod marked;
+mod places;
+mod questions;
 
 /// The used memory of a shelf, the roots of its documents from number 1 on, and its open draft.
 pub struct View<'v, M: Monoid> {

@@ -1,63 +1,51 @@
 ghost use Rattle.std.specs.Prelude.{◌≡◌, ◌+◌, length};
 ghost use Rattle.std.specs.List.{between};
 ghost use Rattle.refusal.specs.Refusals.{Answers};
+ghost use Rattle.rope_read.specs.Texts.{bytes_of};
 ghost use Rattle.shelf_view.specs.State.{shown, strings, text_at};
-ghost use Rattle.shelf_view.specs.Questions.{of_part, of_copy, of_same};
-ghost use Rattle.shelf_view.specs.Places.{Within};
-ghost use Rattle.shelf_view.specs.Marked.{fingerprint, Compares, Around, in_part, ReadsBack};
+ghost use Rattle.shelf_view.specs.Questions.{of_copy, of_same};
+ghost use Rattle.shelf_view.specs.Marked.{Compares, in_part, ReadsBack};
 
 use super::View;
-use super::part::Part;
 use crate::marked::Marked;
-use refusal::Refusal;
 use crate::sameness::Sameness;
 use crate::window::read_between;
+use refusal::Refusal;
 use rope_read::text::Text;
-use zemor::matrix::Sl2;
+
+/// Compares two texts of equal length by their fingerprints.
+fn compare<'v>(one: Text<'v, Marked>, other: Text<'v, Marked>) -> Sameness
+    requires { length (bytes_of one) ≡ length (bytes_of other) }
+    ensures { Compares (length (bytes_of one.entry)) (bytes_of one.entry) (bytes_of other.entry) result }
+{
+    if !one.summary().first.equals(other.summary().first) {
+        Sameness::Different
+    } else if one.len() <= 5 {
+        Sameness::Equal
+    } else {
+        Sameness::Alike
+    }
+}
 
 impl<'v> View<'v, Marked> {
-    /// The fingerprint of the `n` bytes from `a` in document `d`, where they are a lawful part.
-    fn mark(&self, d: u32, a: usize, n: usize) -> Result<Sl2, Refusal>
-        ensures { Answers (of_part (strings self.now) d a (a + n)) (λ x. x ≡ fingerprint (between a (a + n) (text_at (strings self.now) d))) result }
-    {
-        // no `ok_or(..)?`: a document that is not there is refused before a part that is too long
-        let Some(end) = a.checked_add(n) else {
-            self.root(d)?;
-            return Err(Refusal::BadPart);
-        };
-        Ok(self.part_summary(d, a, end)?.first)
-    }
-
     /// Compares the `n` bytes from `a` in document `d` with the `n` bytes from `b` in document `e`, by their fingerprints.
+    /// Refused with NO DOCUMENT for either number, and then with BAD PART for either part, also where its end fits no number.
+    /// Takes time in the heights of the documents.
     pub fn same(&self, d: u32, a: usize, e: u32, b: usize, n: usize) -> Result<Sameness, Refusal>
         ensures { Answers (of_same (strings self.now) d a e b n) (Compares n (between a (a + n) (text_at (strings self.now) d)) (between b (b + n) (text_at (strings self.now) e))) result }
     {
-        self.root(d)?;
-        self.root(e)?;
-        let x = self.mark(d, a, n)?;
-        let y = self.mark(e, b, n)?;
-        Ok(if !x.equals(y) {
-            Sameness::Different
-        } else if n <= 5 {
-            Sameness::Equal
-        } else {
-            Sameness::Alike
-        })
-    }
-
-    /// The fingerprints of what stands before and behind a part.
-    fn around(&self, part: Part) -> (Sl2, Sl2)
-        requires { Within (shown self.now) part }
-        ensures { Around (shown self.now) part result.0 result.1 }
-    {
-        let text = Text::new(self.rope, part.root);
-        let front = text.fold_part(0, part.from);
-        let back = text.fold_part(part.to, text.len());
-        (front.first, back.first)
+        let one = self.document(d)?;
+        let other = self.document(e)?;
+        let x = one.text().bytes(a, n)?;
+        let y = other.text().bytes(b, n)?;
+        Ok(compare(x, y))
     }
 
     /// Looks for the window of at most five bytes that, in the place of the part `a` to `b` of document `d`, gives the
-    /// text of `d` this fingerprint. Writes it at the start of `out`, and answers its length. What lies behind stays.
+    /// text of `d` the fingerprint that 32 digits write. Writes it at the start of `out`, and answers its length. What lies
+    /// behind keeps its bytes. Refused as `part` is, then with SMALL BUFFER where `out` is shorter than five bytes, with BAD
+    /// FINGERPRINT where the digits are not well formed, and with NO WINDOW exactly where no window gives the fingerprint; `out`
+    /// is then as it was. Takes time in the height of the document.
     pub fn read_back(
         &self,
         d: u32,
@@ -68,8 +56,12 @@ impl<'v> View<'v, Marked> {
     ) -> Result<usize, Refusal>
         ensures { ReadsBack (of_copy (strings self.now) d a b 5 (length out.old)) (in_part (text_at (strings self.now) d) a b) fingerprint.now out.old out.new result }
     {
-        let part = self.part(d, a, b)?;
-        let (front, back) = self.around(part);
-        read_between(front, fingerprint, back, out)
+        let (front, back) = self.document(d)?.text().around(a, b)?;
+        read_between(
+            front.summary().first,
+            fingerprint,
+            back.summary().first,
+            out,
+        )
     }
 }

@@ -1,18 +1,32 @@
-use Rattle.std.proofs.Common.{[], ◌∷◌, length, refl, ap, ◌∙◌, sym, subst, nat_lt}
+use Rattle.std.proofs.Common.{[], ◌∷◌, length, refl, ◌∙◌, sym, subst, nat_lt}
 use Rattle.std.proofs.lemmas.Result.{err_from_is_err_and}
-use Rattle.shelf_view.specs.State.{shown, strings, text_at, unknown, bad_part}
+use Rattle.rope_read.specs.Texts.{bad_part, bytes_of}
+use Rattle.shelf_view.specs.State.{shown, strings, text_at, unknown}
 use Rattle.shelf_view.specs.Marked.{in_part, earlier, ReadsBack, of_buffer}
 use Rattle.refusal.specs.declared.Refusal.TheVariants.{NoDocument, BadPart, SmallBuffer}
 use Rattle.refusal.proofs.Firsts.{first_stays, first_then}
-use Rattle.shelf_view.proofs.Reading.{around_part}
+use Rattle.shelf_view.proofs.Placing.{document_text}
+use Rattle.shelf_view.proofs.Reading.{around_part, part_is}
 use Rattle.shelf_view.proofs.view.marked.View+Marked.read_back.Goals as goal
 
-pub returns-in_err-part : goal.returns-in_err-part
-returns-in_err-part c =
+pub returns-in_err-document : goal.returns-in_err-document
+returns-in_err-document c =
     let s = strings c.args.self.now in
-    let part = (unknown s c.args.d, NoDocument) ∷ (bad_part (text_at s c.args.d) c.args.a c.args.b, BadPart) ∷ [] in
+    let rest = (bad_part (text_at s c.args.d) c.args.a c.args.b, BadPart) ∷ (nat_lt (length c.args.out.now) 5, SmallBuffer) ∷ [] in
     let p = err_from_is_err_and c.from_residual.result c.from_residual.ensures.1 in
-    rw (p.1, p.2) (earlier (first_stays part ((nat_lt (length c.args.out.now) 5, SmallBuffer) ∷ []) _ c.in_err-part.ensures), refl)
+    rw (p.1, p.2) (earlier (first_stays ((unknown s c.args.d, NoDocument) ∷ []) rest _ c.in_err-document.ensures), refl)
+
+pub returns-in_err-front : goal.returns-in_err-front
+returns-in_err-front c =
+    let s = strings c.args.self.now in
+    let text = c.text.ensures.value ∙ document_text c.in_ok-document.ensures.1 in
+    let part = (unknown s c.args.d, NoDocument) ∷ (bad_part (text_at s c.args.d) c.args.a c.args.b, BadPart) ∷ [] in
+    let p = err_from_is_err_and c.from_residual-in_err-front.result c.from_residual-in_err-front.ensures.1 in
+    rw (p.1, p.2) (
+      earlier (first_stays part ((nat_lt (length c.args.out.now) 5, SmallBuffer) ∷ []) _
+          (part_is s c.args.d c.args.a c.args.b (bytes_of c.text.result) text c.in_ok-document.ensures.0 ∙ c.in_err-front.ensures)),
+      refl,
+    )
 
 pub returns : goal.returns
 returns c =
@@ -20,9 +34,11 @@ returns c =
     let old = c.args.out.now in
     let digits = c.args.fingerprint.now in
     let part = (unknown s c.args.d, NoDocument) ∷ (bad_part (text_at s c.args.d) c.args.a c.args.b, BadPart) ∷ [] in
-    let front = c.around.result.0 in
-    let back = c.around.result.1 in
-    let whole = around_part (shown c.args.self.now) c.args.d c.args.a c.args.b c.in_ok-part.part front back c.in_ok-part.ensures.1 c.around.ensures in
+    let text = c.text.ensures.value ∙ document_text c.in_ok-document.ensures.1 in
+    let sides = c.in_ok-front.ensures in
+    let whole =
+    around_part (shown c.args.self.now) c.args.d c.args.a c.args.b (bytes_of c.text.result) text c.in_ok-front.front c.in_ok-front.back c.summary.result c.summary-2.result
+    c.summary.ensures c.summary-2.ensures sides.1.0 sides.1.1 in
     subst (λ why. ReadsBack why (in_part (text_at s c.args.d) c.args.a c.args.b) digits old c.read_between.new.out c.read_between.result)
-    (sym (first_then part ((nat_lt (length old) 5, SmallBuffer) ∷ []) c.in_ok-part.ensures.0))
+    (sym (first_then part ((nat_lt (length old) 5, SmallBuffer) ∷ []) (part_is s c.args.d c.args.a c.args.b (bytes_of c.text.result) text c.in_ok-document.ensures.0 ∙ sides.0)))
     (subst (λ f. ReadsBack (of_buffer (length old)) f digits old c.read_between.new.out c.read_between.result) whole c.read_between.ensures)

@@ -1,18 +1,31 @@
-use Rattle.std.proofs.Common.{sym, ◌∙◌}
-use Rattle.shelf_view.specs.State.{shown, strings}
-use Rattle.shelf_view.proofs.Marking.{same_none, part_equal}
+use Rattle.std.proofs.Common.{◌≡◌, ◌+◌, None, ap, ◌∙◌, subst, arith}
+use Rattle.std.specs.List.{between}
+use Rattle.rope_read.specs.Texts.{bytes_of, of_bounds}
+use Rattle.shelf_view.specs.State.{strings, text_at}
+use Rattle.shelf_view.proofs.Placing.{document_text}
+use Rattle.shelf_view.proofs.Marking.{stretch_long, same_none, compared}
 use Rattle.shelf_view.proofs.view.marked.View+Marked.same.Goals as goal
 
-pub returns-then-n-le5 : goal.returns-then-n-le5
-returns-then-n-le5 c =
-    let v = c.args.self.now in
+pub compare-requires : goal.compare-requires
+compare-requires c =
     let x = c.in_ok-x.ensures in
     let y = c.in_ok-y.ensures in
-    let both = sym x.1 ∙ c.if-not-equals.ensures ∙ y.1 in (
-      same_none (strings v) c.args.d c.args.a c.args.e c.args.b c.args.n x.0 y.0,
-      (
-        c.if-n-le5.true,
-        both,
-        part_equal (shown v) c.args.d c.args.a c.args.e c.args.b c.args.n v.rope.sound v.documents c.if-n-le5.true both,
-      ),
+    omega (arith, stretch_long (bytes_of c.text.result) c.in_ok-x.x c.args.a c.args.n x.0 x.1.bytes, stretch_long (bytes_of c.text-2.result) c.in_ok-y.y c.args.b c.args.n y.0 y.1.bytes)
+
+pub returns : goal.returns
+returns c =
+    let s = strings c.args.self.now in
+    let n = c.args.n in
+    let x = c.in_ok-x.ensures in
+    let y = c.in_ok-y.ensures in
+    let one = c.text.ensures.value ∙ document_text c.in_ok-one.ensures.1 in
+    let other = c.text-2.ensures.value ∙ document_text c.in_ok-other.ensures.1 in (
+      same_none s c.args.d c.args.a c.args.e c.args.b n c.in_ok-one.ensures.0 c.in_ok-other.ensures.0
+          (subst (λ t. of_bounds t c.args.a (c.args.a + n) ≡ None) one x.0)
+          (subst (λ t. of_bounds t c.args.b (c.args.b + n) ≡ None) other y.0),
+      compared n (bytes_of c.in_ok-x.x) (bytes_of c.in_ok-y.y) (between c.args.a (c.args.a + n) (text_at s c.args.d)) (between c.args.b (c.args.b + n) (text_at s c.args.e)) c.compare.result
+          (stretch_long (bytes_of c.text.result) c.in_ok-x.x c.args.a n x.0 x.1.bytes)
+          (x.1.bytes ∙ ap (between c.args.a (c.args.a + n)) one)
+          (y.1.bytes ∙ ap (between c.args.b (c.args.b + n)) other)
+          c.compare.ensures,
     )
