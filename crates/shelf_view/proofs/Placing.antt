@@ -9,7 +9,8 @@ use Rattle.rope.specs.Arena.{Arena, Root, text_of, height_of, kept_of, rooted}
 use Rattle.shelf_view.specs.Documents.{fine, all_fine, most}
 use Rattle.rope_read.specs.Texts.{whole_bytes}
 use Rattle.rope_read.specs.declared.whole.Whole.{Whole}
-use Rattle.shelf_view.specs.State.{Shelved, state_of, text_at, unknown}
+use Rattle.rope.specs.Memory.{seen}
+use Rattle.shelf_view.specs.State.{Shelved, state_of, heights_of, text_at, unknown}
 use Rattle.refusal.specs.Refusals.{Answers}
 use Rattle.shelf_view.specs.Questions.{of_document}
 use Rattle.shelf_view.specs.Places.{Lies, IsDocument}
@@ -52,3 +53,7 @@ module _ {V R : Type 0} (m : Model V R) (s : Shelved R) where
 -- the text of a document, as its door gives it
 pub document_text : {V R : Type 0} {kind : _} {m : Model V R} {s : Shelved R} {d : ℕ} {w : Whole V R kind} → IsDocument m s d w → whole_bytes w ≡ text_at (state_of s) d
 document_text {w = w} h = ap (λ a. text_of a w.root) h.memory ∙ sym h.lies.text_is
+
+-- and its height
+pub document_high : {V R : Type 0} {kind : _} {m : Model V R} {s : Shelved R} {d : ℕ} {w : Whole V R kind} → IsDocument m s d w → height_of (seen w.view) w.root ≡ get_or (heights_of s) d 0
+document_high {w = w} h = ap (λ a. height_of a w.root) h.memory ∙ sym h.lies.high

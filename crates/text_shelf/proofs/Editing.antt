@@ -1,5 +1,5 @@
 -- Cut and splice, from what the trees tell.
-use Rattle.std.proofs.Common.{◌≡◌, ℕ, ◌+◌, ◌≤◌, max, [], ◌∷◌, ◌++◌, length, get_or, take, drop, None, sym, ap, ◌∙◌, subst, arith}
+use Rattle.std.proofs.Common.{◌≡◌, ℕ, ◌+◌, ◌-◌, ◌≤◌, max, [], ◌∷◌, ◌++◌, length, get_or, take, drop, None, sym, ap, ◌∙◌, subst, arith}
 use Rattle.std.specs.List.{between}
 use Rattle.monoid.specs.Monoid.{Model}
 use Rattle.rope.specs.Memory.{arena_of, Takes}
@@ -7,12 +7,17 @@ use Rattle.rope.specs.Arena.{Root}
 use Rattle.rope.specs.declared.store.Store.{Store}
 use Rattle.rope_cut.specs.Parts.{Makes, edit_need, text_in, height_in, higher}
 use Rattle.shelf_view.specs.Documents.{most}
-use Rattle.shelf_view.specs.State.{text_at}
-use Rattle.shelf_view.specs.Places.{Lies, Span}
-use Rattle.shelf_view.specs.declared.view.part.Part.{Part}
-use Rattle.shelf_view.proofs.Copying.{part_text}
-use Rattle.shelf_view.proofs.Placing.{short_of}
+use Rattle.shelf_view.specs.State.{Shelved, text_at}
+use Rattle.std.proofs.lemmas.List.Edits.{length-between}
+use Rattle.rope_read.specs.Texts.{bytes_of, whole_bytes, of_bounds, IsSlice}
+use Rattle.rope_read.specs.declared.text.Span.{Span}
+use Rattle.rope_read.specs.declared.text.Text.{Text}
+use Rattle.rope_read.specs.declared.whole.Whole.{Whole}
+use Rattle.rope_read.proofs.Slices.{bounds_lawful}
+use Rattle.shelf_view.specs.Places.{Lies, IsDocument}
+use Rattle.shelf_view.proofs.Placing.{short_of, document_text}
 use Rattle.text_shelf.specs.Shelves.{Parts, parts, shelved, brought, told, strings}
+use Rattle.text_shelf.specs.Spans.{Spans}
 use Rattle.text_shelf.specs.Calls.{reason, need, spliced}
 use Rattle.text_shelf.specs.declared.call.Call.TheVariants.{Cut, Splice}
 use Rattle.rope.specs.Held.{Gains}
@@ -21,11 +26,29 @@ use Rattle.text_shelf.specs.declared.shelf.Shelf.{Shelf}
 use Rattle.text_shelf.specs.declared.shelf.TheConstants.{MOST_PLACES}
 use Rattle.text_shelf.proofs.Appending.{Appends, append, takes_grows, cut_fits, splice_fits}
 
+-- the part x to y of document d, as its door and its slice tell it
+module _ {V R : Type 0} {kind : _} {m : Model V R} {s : Shelved R} {d : ℕ} {w : Whole V R kind} (is : IsDocument m s d w) (text part : Text V R kind)
+    (place : (text.view ≡ w.view) × (text.root ≡ w.root)) (bounds : (text.from ≡ 0) × (text.to ≡ length (whole_bytes w))) (value : bytes_of text ≡ whole_bytes w)
+    (x y : ℕ) (slice : IsSlice text x y part) (lawful : of_bounds (bytes_of text) x y ≡ None) where
+  pub spans : (p : Span) → p ≡ record { root = part.root; from = part.from; to = part.to } → Spans m s d x y p
+  spans p at =
+      let both = bounds_lawful (bytes_of text) x y lawful in
+      rw at (record {
+        lies = subst (Lies m s d) (sym (slice.root ∙ place.1)) is.lies;
+        from_is = omega (arith, slice.from, bounds.0);
+        to_is = omega (arith, slice.to, bounds.0);
+        ordered = both.0;
+        within = omega (arith, both.1, ap length (value ∙ document_text is));
+      })
+
+  pub part_long : length (bytes_of part) ≡ y - x
+  part_long = ap length slice.bytes ∙ length-between (bytes_of text) x y (bounds_lawful (bytes_of text) x y lawful).1
+
 module _ {V R : Type 0} {kind : _} (m : Model V R) (s : Shelf V R kind) (store : Store V R kind) (places : Lent Root MOST_PLACES) (root : Root) (pushes : Gains s.places places (root ∷ [])) where
   abbrev pub after : Parts V R kind
   after = record { store = store; places = places; draft = s.draft; mark = s.mark; opened = s.opened }
 
-  module _ (d x y : ℕ) (p : Part) (span : Span m (shelved (parts s)) d x y p) where
+  module _ (d x y : ℕ) (p : Span) (span : Spans m (shelved (parts s)) d x y p) where
     pub cut_appends : reason (brought (parts s)) (told (parts s)) (strings (parts s)) (Cut d x y) ≡ None
         → Makes s.store store root (between p.from p.to (text_in s.store p.root)) (edit_need (height_in s.store p.root)) (height_in s.store p.root)
         → Appends (parts s) after (between x y (text_at (strings (parts s)) d)) [] (need (told (parts s)) (Cut d x y))
@@ -33,7 +56,7 @@ module _ {V R : Type 0} {kind : _} (m : Model V R) (s : Shelf V R kind) (store :
         let takes = subst (λ n. Takes s.store store (edit_need n)) (sym span.lies.high) made.takes in
         let short : length (text_at (strings (parts s)) d) ≤ most = omega (arith, ap length span.lies.text_is, short_of (arena_of s.store) p.root span.lies.fine_root) in
         append s store [] (need (told (parts s)) (Cut d x y)) (takes_grows s.store store _ takes) places root (between x y (text_at (strings (parts s)) d)) pushes made.root
-        (made.text_is ∙ part_text m (shelved (parts s)) d x y p span) (cut_fits (brought (parts s)) (told (parts s)) (strings (parts s)) d x y short none)
+        (made.text_is ∙ (λ i. between (span.from_is i) (span.to_is i) (sym span.lies.text_is i))) (cut_fits (brought (parts s)) (told (parts s)) (strings (parts s)) d x y short none)
 
     pub splice_appends : (e : ℕ) (q : Root) → Lies m (shelved (parts s)) e q → reason (brought (parts s)) (told (parts s)) (strings (parts s)) (Splice d x y e) ≡ None
         → Makes s.store store root (take p.from (text_in s.store p.root) ++ (text_in s.store q ++ drop p.to (text_in s.store p.root)))

@@ -4,14 +4,14 @@ use Rattle.std.proofs.lemmas.Bool.{lt-ltb, le-ltb}
 use Rattle.rope_cut.specs.Parts.{edit_need}
 use Rattle.shelf_view.specs.Documents.{most}
 use Rattle.refusal.specs.Refusals.{Reasons, first}
-use Rattle.shelf_view.specs.State.{Shelved, state_of, unknown, text_at, bad_part}
+use Rattle.rope_read.specs.Texts.{bad_part}
+use Rattle.shelf_view.specs.State.{Shelved, state_of, unknown, text_at}
 use Rattle.shelf_view.specs.Questions.{of_document, of_part}
 use Rattle.refusal.specs.declared.Refusal.{Refusal}
 use Rattle.refusal.specs.declared.Refusal.TheVariants.{NoDocument, BadPart, TooLong}
 use Rattle.refusal.proofs.Firsts.{first_is, first_not, first_stays, first_then, first_or, passed}
 use Rattle.text_shelf.specs.Shelves.{Brought, Told}
-use Rattle.text_shelf.specs.Calls.{reason, spliced}
-use Rattle.text_shelf.specs.Ends.{memory}
+use Rattle.text_shelf.specs.Calls.{reason, memory, spliced}
 use Rattle.text_shelf.specs.declared.call.Call.TheVariants.{Cut, Splice}
 
 module _ {R : Type 0} (b : Brought) (t : Told) (v s : Shelved R) (same : v ≡ s) where
@@ -24,14 +24,14 @@ module _ {R : Type 0} (b : Brought) (t : Told) (v s : Shelved R) (same : v ≡ s
   module _ (d x y : ℕ) where
     pub cut_refused : (e : Refusal) → of_part (state_of v) d x y ≡ Some e → reason b t (state_of s) (Cut d x y) ≡ Some e
     cut_refused e h =
-        first_stays ((unknown (state_of s) d, NoDocument) ∷ (bad_part (text_at (state_of s) d) x y, BadPart) ∷ []) (memory b t (state_of s) (edit_need (get_or t.heights d 0))) e
+        first_stays ((unknown (state_of s) d, NoDocument) ∷ (bad_part (text_at (state_of s) d) x y, BadPart) ∷ []) (memory (edit_need (get_or t.heights d 0)) b t (state_of s)) e
         (part_of d x y (Some e) h)
 
-    pub cut_decided : (h : ℕ) (w : Option Refusal) → of_part (state_of v) d x y ≡ None → h ≡ get_or t.heights d 0 → first (memory b t (state_of s) (edit_need h)) ≡ w
+    pub cut_decided : (h : ℕ) (w : Option Refusal) → of_part (state_of v) d x y ≡ None → h ≡ get_or t.heights d 0 → first (memory (edit_need h) b t (state_of s)) ≡ w
         → reason b t (state_of s) (Cut d x y) ≡ w
     cut_decided h w none high is =
-        first_then ((unknown (state_of s) d, NoDocument) ∷ (bad_part (text_at (state_of s) d) x y, BadPart) ∷ []) (memory b t (state_of s) (edit_need (get_or t.heights d 0)))
-        (part_of d x y None none) ∙ ap (λ k. first (memory b t (state_of s) (edit_need k))) (sym high) ∙ is
+        first_then ((unknown (state_of s) d, NoDocument) ∷ (bad_part (text_at (state_of s) d) x y, BadPart) ∷ []) (memory (edit_need (get_or t.heights d 0)) b t (state_of s))
+        (part_of d x y None none) ∙ ap (λ k. first (memory (edit_need k) b t (state_of s))) (sym high) ∙ is
 
     module _ (e : ℕ) where
       -- what follows the document numbers
@@ -42,7 +42,7 @@ module _ {R : Type 0} (b : Brought) (t : Told) (v s : Shelved R) (same : v ≡ s
       long = (ltb most (length (spliced (text_at (state_of s) d) x y (text_at (state_of s) e))), TooLong) ∷ []
 
       last : Reasons
-      last = memory b t (state_of s) (edit_need (max (get_or t.heights d 0) (get_or t.heights e 0)))
+      last = memory (edit_need (max (get_or t.heights d 0) (get_or t.heights e 0))) b t (state_of s)
 
       apart : reason b t (state_of s) (Splice d x y e) ≡ first ((unknown (state_of s) d, NoDocument) ∷ (unknown (state_of s) e, NoDocument) ∷ (parted ++ (long ++ last)))
       unfolding parted long last
@@ -75,11 +75,11 @@ module _ {R : Type 0} (b : Brought) (t : Told) (v s : Shelved R) (same : v ≡ s
             splice_long h = past_part ∙ first_is TooLong last (ap (ltb most) (sym is) ∙ lt-ltb _ _ h)
 
             pub splice_decided : n ≤ most → (h : ℕ) (w : Option Refusal) → h ≡ max (get_or t.heights d 0) (get_or t.heights e 0)
-                → first (memory b t (state_of s) (edit_need h)) ≡ w → reason b t (state_of s) (Splice d x y e) ≡ w
+                → first (memory (edit_need h) b t (state_of s)) ≡ w → reason b t (state_of s) (Splice d x y e) ≡ w
             unfolding long last
             splice_decided short h w high decided =
                 past_part ∙ first_not TooLong last (ap (ltb most) (sym is) ∙ le-ltb _ _ short)
-                ∙ ap (λ k. first (memory b t (state_of s) (edit_need k))) (sym high) ∙ decided
+                ∙ ap (λ k. first (memory (edit_need k) b t (state_of s))) (sym high) ∙ decided
 
 -- the length of a spliced text
 pub length_spliced : (d e : List ℕ) (x y : ℕ) → x ≤ y → y ≤ length d → length (spliced d x y e) ≡ length d - (y - x) + length e

@@ -6,7 +6,8 @@ use Rattle.rope_cut.specs.Parts.{edit_need}
 use Rattle.rope_keep.specs.Kept.{need_of_text, add_need}
 use Rattle.shelf_view.specs.Documents.{most}
 use Rattle.refusal.specs.Refusals.{Reasons}
-use Rattle.shelf_view.specs.State.{State, unknown, text_at, bad_part, strange, draft_text}
+use Rattle.rope_read.specs.Texts.{bad_part}
+use Rattle.shelf_view.specs.State.{State, unknown, text_at, strange, draft_text}
 use Rattle.refusal.specs.declared.Refusal.{Refusal}
 use Rattle.refusal.specs.declared.Refusal.TheVariants.{StrangeDraft, DraftOpen, NoDocument, BadPart, TooLong, TextFull, RecordsShort, NumbersSpent}
 use Rattle.text_shelf.specs.Shelves.{Brought, Told}
@@ -108,41 +109,41 @@ records_short b t n = nat_lt (b.records - t.used) n
 abbrev pub numbers_spent : Brought → State → Bool
 numbers_spent b s = nat_lt b.places (length s.texts)
 
--- the reasons for which a call may be refused, in the order of their numbers
+-- reasons, by what was brought, what the shelf tells, and the list of strings
+abbrev pub Because : Type 0
+Because = Brought → Told → State → Reasons
+
+-- where n added bytes more are asked for, n records more, and a document more
+abbrev pub bytes : ℕ → Because
+bytes n b t s = (text_full b s n, TextFull) ∷ []
+
+abbrev pub records : ℕ → Because
+records n b t s = (records_short b t n, RecordsShort) ∷ []
+
+abbrev pub place : Because
+place b t s = (numbers_spent b s, NumbersSpent) ∷ []
+
+-- where a document more is asked for that may take n records
+abbrev pub memory : ℕ → Because
+memory n b t s = records n b t s ++ place b t s
+
+-- where n bytes are to be added behind a draft of len bytes that is high high
+abbrev pub longer : ℕ → ℕ → ℕ → Because
+longer n len high b t s = (nat_lt 4096 n || nat_lt most (len + n), TooLong) ∷ (bytes n b t s ++ records (add_need high n) b t s)
+
+-- the reasons for which a call may be refused, in the order in which they are tested
 abbrev pub reasons : Brought → Told → State → Call → Reasons
-reasons b t s (Put text) =
-    (nat_lt 4096 (length text.now), TooLong)
-    ∷ (text_full b s (length text.now), TextFull)
-    ∷ (records_short b t (need_of_text (length text.now)), RecordsShort)
-    ∷ (numbers_spent b s, NumbersSpent)
-    ∷ []
-reasons b t s (Take x y) =
-    (bad_part b.build x y, BadPart)
-    ∷ (nat_lt most (y - x), TooLong)
-    ∷ (records_short b t (need_of_text (y - x)), RecordsShort)
-    ∷ (numbers_spent b s, NumbersSpent)
-    ∷ []
-reasons b t s (Cut d x y) =
-    (unknown s d, NoDocument)
-    ∷ (bad_part (text_at s d) x y, BadPart)
-    ∷ (records_short b t (edit_need (slice_index t.heights d)), RecordsShort)
-    ∷ (numbers_spent b s, NumbersSpent)
-    ∷ []
+reasons b t s (Put text) = (nat_lt 4096 (length text.now), TooLong) ∷ (bytes (length text.now) b t s ++ memory (need t (Put text)) b t s)
+reasons b t s (Take x y) = (bad_part b.build x y, BadPart) ∷ (nat_lt most (y - x), TooLong) ∷ memory (need t (Take x y)) b t s
+reasons b t s (Cut d x y) = (unknown s d, NoDocument) ∷ (bad_part (text_at s d) x y, BadPart) ∷ memory (need t (Cut d x y)) b t s
 reasons b t s (Splice d x y e) =
     (unknown s d || unknown s e, NoDocument)
     ∷ (bad_part (text_at s d) x y, BadPart)
     ∷ (nat_lt most (length (spliced (text_at s d) x y (text_at s e))), TooLong)
-    ∷ (records_short b t (edit_need (max (slice_index t.heights d) (slice_index t.heights e))), RecordsShort)
-    ∷ (numbers_spent b s, NumbersSpent)
-    ∷ []
+    ∷ memory (need t (Splice d x y e)) b t s
 reasons b t s Open = (is_some s.draft || nat_le 4294967295 s.opened, DraftOpen) ∷ []
-reasons b t s (Add d text) =
-    (strange s b.mark d, StrangeDraft)
-    ∷ (nat_lt 4096 (length text.now) || nat_lt most (length (draft_text s) + length text.now), TooLong)
-    ∷ (text_full b s (length text.now), TextFull)
-    ∷ (records_short b t (add_need t.draft (length text.now)), RecordsShort)
-    ∷ []
-reasons b t s (Seal d) = (strange s b.mark d, StrangeDraft) ∷ (numbers_spent b s, NumbersSpent) ∷ []
+reasons b t s (Add d text) = (strange s b.mark d, StrangeDraft) ∷ longer (length text.now) (length (draft_text s)) t.draft b t s
+reasons b t s (Seal d) = (strange s b.mark d, StrangeDraft) ∷ place b t s
 reasons b t s (GiveUp d) = (strange s b.mark d, StrangeDraft) ∷ []
 
 -- the rules of the calls of every shelf

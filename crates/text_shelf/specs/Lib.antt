@@ -1,7 +1,7 @@
 pub mod Shelves
 pub mod Rules
 pub mod Calls
-pub mod Ends
 pub mod Whys
+pub mod Spans
 pub mod Steps
 pub mod Reaches

@@ -6,8 +6,8 @@ use crate::call::{Answer, Call};
 use crate::draft::Draft;
 use crate::shelf::Shelf;
 use monoid::Monoid;
-use rope::record::{Record, Root};
 use refusal::Refusal;
+use rope::record::{Record, Root};
 
 /// What a list of calls on a fresh shelf leaves.
 pub struct Outcome<'b, 'a, M: Monoid> {

@@ -7,8 +7,8 @@ use super::Shelf;
 use crate::call::{Answer, Call};
 use crate::draft::Draft;
 use monoid::Monoid;
-use shelf_view::draft_id::DraftId;
 use refusal::Refusal;
+use shelf_view::draft_id::DraftId;
 
 /// Lets go of the draft that a refused call hands back.
 fn refused(refusal: (Refusal, Draft)) -> Refusal

@@ -5,9 +5,9 @@ ghost use Rattle.text_shelf.specs.declared.call.Call.TheVariants.{Open, Add, Sea
 use super::Shelf;
 use crate::draft::Draft;
 use monoid::Monoid;
+use refusal::Refusal;
 use rope_keep::lengthen;
 use shelf_view::draft_id::DraftId;
-use refusal::Refusal;
 
 impl<'b, 'a, M: Monoid> Shelf<'b, 'a, M> {
     /// Starts an empty draft.

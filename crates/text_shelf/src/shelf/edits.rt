@@ -3,9 +3,9 @@ ghost use Rattle.text_shelf.specs.declared.call.Call.TheVariants.{Put, Take, Cut
 
 use super::Shelf;
 use monoid::Monoid;
+use refusal::Refusal;
 use rope_cut::{cut, splice};
 use rope_keep::{keep, take_part};
-use refusal::Refusal;
 
 impl<'b, 'a, M: Monoid> Shelf<'b, 'a, M> {
     /// Appends `text` as a document, and answers its number.

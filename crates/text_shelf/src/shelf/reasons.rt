@@ -1,18 +1,20 @@
 ghost use Rattle.std.specs.Prelude.{◌≡◌, ◌≤◌, ⊤};
 ghost use Rattle.refusal.specs.Refusals.{Answers};
-ghost use Rattle.shelf_view.specs.Places.{Lies, Span, Drafts};
+ghost use Rattle.shelf_view.specs.Places.{Lies, Drafts};
 ghost use Rattle.rope_cut.specs.Parts.{edit_need as need_of_edit};
 ghost use Rattle.rope_keep.specs.Kept.{need_of_text};
 ghost use Rattle.text_shelf.specs.Shelves.{parts, shelved};
-ghost use Rattle.text_shelf.specs.Whys.{why, why_bytes, why_records, why_place, why_memory, why_longer};
+ghost use Rattle.text_shelf.specs.Spans.{Spans};
+ghost use Rattle.text_shelf.specs.Calls.{bytes, records, place, memory, longer};
+ghost use Rattle.text_shelf.specs.Whys.{why, why_call};
 ghost use Rattle.text_shelf.specs.declared.call.Call.TheVariants.{Put, Take, Cut, Splice, Add, Seal, GiveUp};
 
 use super::Shelf;
 use monoid::Monoid;
-use rope::record::Root;
-use shelf_view::draft_id::DraftId;
 use refusal::Refusal;
-use shelf_view::view::part::Part;
+use rope::record::Root;
+use rope_read::text::Span;
+use shelf_view::draft_id::DraftId;
 
 /// The longest text that a call may bring.
 const MOST_BROUGHT: usize = 4096;
@@ -38,7 +40,7 @@ fn edit_need(high: u8) -> usize
 impl<'b, 'a, M: Monoid> Shelf<'b, 'a, M> {
     /// Refuses where there is no memory for `n` added bytes more.
     fn bytes_for(&self, n: usize) -> Result<(), Refusal>
-        ensures { Answers (why_bytes self.now n) (λ x. ⊤) result }
+        ensures { Answers (why (bytes n) self.now) (λ x. ⊤) result }
     {
         if n > self.store.free_bytes() {
             return Err(Refusal::TextFull);
@@ -48,7 +50,7 @@ impl<'b, 'a, M: Monoid> Shelf<'b, 'a, M> {
 
     /// Refuses where fewer than `need` records are free.
     fn records_for(&self, need: usize) -> Result<(), Refusal>
-        ensures { Answers (why_records self.now need) (λ x. ⊤) result }
+        ensures { Answers (why (records need) self.now) (λ x. ⊤) result }
     {
         if self.store.free_records() < need {
             return Err(Refusal::RecordsShort);
@@ -58,7 +60,7 @@ impl<'b, 'a, M: Monoid> Shelf<'b, 'a, M> {
 
     /// Refuses where every place is taken.
     fn place_for_one(&self) -> Result<(), Refusal>
-        ensures { Answers (why_place self.now) (λ x. ⊤) result }
+        ensures { Answers (why place self.now) (λ x. ⊤) result }
     {
         if self.places.room() == 0 {
             return Err(Refusal::NumbersSpent);
@@ -68,7 +70,7 @@ impl<'b, 'a, M: Monoid> Shelf<'b, 'a, M> {
 
     /// Refuses where there is no memory for a new document that may take `need` records.
     fn memory_for(&self, need: usize) -> Result<(), Refusal>
-        ensures { Answers (why_memory self.now need) (λ x. ⊤) result }
+        ensures { Answers (why (memory need) self.now) (λ x. ⊤) result }
     {
         self.records_for(need)?;
         self.place_for_one()
@@ -76,13 +78,13 @@ impl<'b, 'a, M: Monoid> Shelf<'b, 'a, M> {
 
     /// Refuses where there is no memory for an edit of texts at most `high`.
     fn memory_for_edit(&self, high: u8) -> Result<(), Refusal>
-        ensures { Answers (why_memory self.now (need_of_edit high)) (λ x. ⊤) result }
+        ensures { Answers (why (memory (need_of_edit high)) self.now) (λ x. ⊤) result }
     {
         self.memory_for(edit_need(high))
     }
 
     pub(super) fn check_put(&self, text: &[u8]) -> Result<(), Refusal>
-        ensures { Answers (why self.now (Put text.entry)) (λ x. ⊤) result }
+        ensures { Answers (why_call self.now (Put text.entry)) (λ x. ⊤) result }
     {
         let n = text.len();
         if n > MOST_BROUGHT {
@@ -93,7 +95,7 @@ impl<'b, 'a, M: Monoid> Shelf<'b, 'a, M> {
     }
 
     pub(super) fn check_take(&self, from: usize, to: usize) -> Result<(), Refusal>
-        ensures { Answers (why self.now (Take from to)) (λ x. ⊤) result }
+        ensures { Answers (why_call self.now (Take from to)) (λ x. ⊤) result }
     {
         if from > to || to > self.store.build_len() {
             return Err(Refusal::BadPart);
@@ -106,13 +108,13 @@ impl<'b, 'a, M: Monoid> Shelf<'b, 'a, M> {
     }
 
     /// The part to cut, or why there is none.
-    pub(super) fn cut_part(&self, d: u32, from: usize, to: usize) -> Result<Part, Refusal>
-        ensures { Answers (why self.now (Cut d from to)) (Span M.Monoid.model (shelved (parts self.now)) d from to) result }
+    pub(super) fn cut_part(&self, d: u32, from: usize, to: usize) -> Result<Span, Refusal>
+        ensures { Answers (why_call self.now (Cut d from to)) (Spans M.Monoid.model (shelved (parts self.now)) d from to) result }
     {
-        let view = self.view();
-        let part = view.part(d, from, to)?;
-        self.memory_for_edit(view.height(d)?)?;
-        Ok(part)
+        let whole = self.view().document(d)?;
+        let part = whole.text().part(from, to)?;
+        self.memory_for_edit(whole.height())?;
+        Ok(part.span())
     }
 
     /// The part to replace and the root to put there, or why there are none.
@@ -122,38 +124,33 @@ impl<'b, 'a, M: Monoid> Shelf<'b, 'a, M> {
         from: usize,
         to: usize,
         other: u32,
-    ) -> Result<(Part, Root), Refusal>
-        ensures { Answers (why self.now (Splice d from to other)) (λ p. Span M.Monoid.model (shelved (parts self.now)) d from to p.0 × Lies M.Monoid.model (shelved (parts self.now)) other p.1) result }
+    ) -> Result<(Span, Root), Refusal>
+        ensures { Answers (why_call self.now (Splice d from to other)) (λ p. Spans M.Monoid.model (shelved (parts self.now)) d from to p.0 × Lies M.Monoid.model (shelved (parts self.now)) other p.1) result }
     {
         let view = self.view();
-        view.root(d)?;
-        let root = view.root(other)?;
-        let part = view.part(d, from, to)?;
-        let len = view.len(d)? - (to - from) + view.len(other)?;
-        if len > MOST_TEXT {
+        let whole = view.document(d)?;
+        let more = view.document(other)?;
+        let part = whole.text().part(from, to)?;
+        if whole.len() - part.len() + more.len() > MOST_TEXT {
             return Err(Refusal::TooLong);
         }
-        let high = view.height(d)?.max(view.height(other)?);
-        self.memory_for_edit(high)?;
-        Ok((part, root))
+        self.memory_for_edit(whole.height().max(more.height()))?;
+        Ok((part.span(), more.root()))
     }
 
     /// The root of the draft to lengthen by `text`, or why there is none.
     pub(super) fn draft_to_add(&self, id: DraftId, text: &[u8]) -> Result<Root, Refusal>
-        ensures { Answers (why self.now (Add id text.entry)) (Drafts M.Monoid.model (shelved (parts self.now))) result }
+        ensures { Answers (why_call self.now (Add id text.entry)) (Drafts M.Monoid.model (shelved (parts self.now))) result }
     {
-        let view = self.view();
-        let root = view.draft_root(id)?;
-        let len = view.draft_len(id)?;
-        let high = view.draft_height(id)?;
-        self.memory_for_more(text.len(), len, high)?;
-        Ok(root)
+        let whole = self.view().draft(id)?;
+        self.memory_for_more(text.len(), whole.len(), whole.height())?;
+        Ok(whole.root())
     }
 
     /// Refuses where a draft of `len` bytes, `high` high, is not lengthened by `n` bytes.
     fn memory_for_more(&self, n: usize, len: usize, high: u8) -> Result<(), Refusal>
         requires { len ≤ 1048576 }
-        ensures { Answers (why_longer self.now n len high) (λ x. ⊤) result }
+        ensures { Answers (why (longer n len high) self.now) (λ x. ⊤) result }
     {
         if n > MOST_BROUGHT || len + n > MOST_TEXT {
             return Err(Refusal::TooLong);
@@ -164,17 +161,17 @@ impl<'b, 'a, M: Monoid> Shelf<'b, 'a, M> {
 
     /// The root of the draft to seal, or why there is none.
     pub(super) fn draft_to_seal(&self, id: DraftId) -> Result<Root, Refusal>
-        ensures { Answers (why self.now (Seal id)) (Drafts M.Monoid.model (shelved (parts self.now))) result }
+        ensures { Answers (why_call self.now (Seal id)) (Drafts M.Monoid.model (shelved (parts self.now))) result }
     {
-        let root = self.view().draft_root(id)?;
+        let root = self.draft_to_end(id)?;
         self.place_for_one()?;
         Ok(root)
     }
 
     /// The root of the draft to end, or why there is none.
     pub(super) fn draft_to_end(&self, id: DraftId) -> Result<Root, Refusal>
-        ensures { Answers (why self.now (GiveUp id)) (Drafts M.Monoid.model (shelved (parts self.now))) result }
+        ensures { Answers (why_call self.now (GiveUp id)) (Drafts M.Monoid.model (shelved (parts self.now))) result }
     {
-        self.view().draft_root(id)
+        Ok(self.view().draft(id)?.root())
     }
 }
