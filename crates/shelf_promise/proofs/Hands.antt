@@ -21,7 +21,7 @@ module _ {V R : Type 0} {kind : _} (build added : List ℕ) (records : List (Rec
   pub five : (s o a p c e : Shelf V R kind) → Fresh (parts s) build added records places mark → (d : DraftId) (text : Bor (List ℕ)) (x y z w : Result Answer Refusal)
       → Steps s Open (Ok (Opened d)) o → Steps o (Add d text) x a → Steps a (Put text) y p → Steps p (Cut 4294967295 0 0) z c → Steps c (Seal d) w e
       → Reached every_shelf (used_of build added records places mark) (Open ∷ (Add d text ∷ (Put text ∷ (Cut 4294967295 0 0 ∷ (Seal d ∷ [])))))
-          (Ok (Opened d) ∷ (x ∷ (y ∷ (z ∷ (w ∷ []))))) e
+      (Ok (Opened d) ∷ (x ∷ (y ∷ (z ∷ (w ∷ []))))) e
   five s o a p c e f d text x y z w so sa sp sc se =
       let r0 : Reached every_shelf (used_of build added records places mark) [] [] s = fresh f refl in
       let r1 : Reached every_shelf (used_of build added records places mark) (Open ∷ []) (Ok (Opened d) ∷ []) o = called r0 Open (Ok (Opened d)) so in

@@ -2,7 +2,7 @@
 use Rattle.std.proofs.Common.{rules, ◌≡◌, ℕ, zero, suc, ◌<◌, true, false, List, [], ◌∷◌, length, get_or, Some, None, Ok, Err, Result, sym, refl, ap, ◌∙◌, subst, arith}
 use Rattle.std.proofs.lemmas.List.{get_or-map, length-map}
 use Rattle.std.proofs.lemmas.Bool.Decides.{nat_tests}
-use Rattle.monoid.specs.Monoid.{Model, Lawful, fold_of, all_bytes}
+use Rattle.monoid.specs.Monoid.{Model, Lawful, all_bytes}
 use Rattle.monoid.specs.Pair.{pair_model}
 use Rattle.monoid.specs.LineColumnLaws.{lawful as line_column_lawful}
 use Rattle.zemor.specs.Laws.{lawful as sl2_lawful}
@@ -17,8 +17,7 @@ use Rattle.rope.specs.Arena.{Sound, text_of}
 use Rattle.shelf_view.specs.Documents.{all_fine}
 use Rattle.shelf_view.specs.Marked.{marked, fingerprint}
 use Rattle.shelf_view.specs.Questions.{of_document}
-use Rattle.refusal.specs.Refusals.{Answers}
-use Rattle.shelf_view.specs.State.{State, Shelved, state_of, text_at, unknown, kept_values}
+use Rattle.shelf_view.specs.State.{State, Shelved, state_of, text_at, unknown}
 use Rattle.refusal.specs.declared.Refusal.{Refusal}
 use Rattle.refusal.specs.declared.Refusal.TheVariants.{NoDocument}
 use Rattle.refusal.proofs.Firsts.{first_or, first_stays, first_then, passed}
@@ -39,14 +38,6 @@ pair_lawful m n l k = search rules
 -- the laws of the pair that marked shelves keep
 pub marked_lawful : Lawful marked
 marked_lawful = pair_lawful sl2 line_column_model sl2_lawful line_column_lawful
-
--- what the view ensures of a document's summary
-abbrev pub DocumentTold : {V R : Type 0} → Model V R → ℕ → Result V Refusal → Shelved R → Type 0
-DocumentTold m d r s = Answers (of_document (state_of s) d) (λ v. (v ≡ get_or (kept_values m s) d m.empty) × (v ≡ fold_of m (text_at (state_of s) d))) r
-
-pub document_folds : {V R : Type 0} (m : Model V R) (d : ℕ) (r : Result V Refusal) (s : Shelved R) → DocumentTold m d r s → DocumentFolds m d r (state_of s)
-document_folds m d (Ok v) s h = (h.0, h.1.1)
-document_folds m d (Err e) s h = h
 
 -- every byte of a document is below 256
 pub document_bytes : {R : Type 0} (s : Shelved R) → Sound s.arena → all_fine s.arena s.roots ≡ true → (d : ℕ) → unknown (state_of s) d ≡ false → all_bytes (text_at (state_of s) d) ≡ true

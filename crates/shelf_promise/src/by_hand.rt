@@ -6,9 +6,9 @@ ghost use Rattle.text_shelf.specs.Reaches.{Reached, used_of};
 ghost use Rattle.shelf_promise.specs.Hands.{calls_made, answers_given};
 
 use monoid::Monoid;
+use refusal::Refusal;
 use rope::record::{Record, Root};
 use shelf_view::draft_id::DraftId;
-use refusal::Refusal;
 use text_shelf::draft::Draft;
 use text_shelf::shelf::Shelf;
 

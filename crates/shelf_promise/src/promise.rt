@@ -3,9 +3,8 @@ ghost use Rattle.shelf_promise.specs.Promises.{Promise};
 
 use crate::told;
 use monoid::Monoid;
-use monoid::line_column::LineColumn;
-use monoid::pair::Pair;
 use refusal::Refusal;
+use text_shelf::named::MarkedShelf;
 use text_shelf::shelf::Shelf;
 use zemor::matrix::Sl2;
 
@@ -45,8 +44,8 @@ pub struct Told<M> {
 /// marked shelves may be one. Each question is answered, or refused, as the call of its name in `told`.
 pub fn ask<'b, 'a, 'c, 'd, 'e, 'f, M: Monoid>(
     shelf: &Shelf<'b, 'a, M>,
-    one: &Shelf<'c, 'd, Pair<Sl2, LineColumn>>,
-    other: &Shelf<'e, 'f, Pair<Sl2, LineColumn>>,
+    one: &MarkedShelf<'c, 'd>,
+    other: &MarkedShelf<'e, 'f>,
     asked: Asked,
     fingerprint: &[u8],
     out: &mut [u8],

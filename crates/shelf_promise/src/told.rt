@@ -4,9 +4,8 @@ ghost use Rattle.text_shelf.specs.Calls.{every_shelf};
 ghost use Rattle.shelf_promise.specs.Promises.{Tells, Keeps, DocumentFolds, PartFolds, SlipsTold, WindowTold};
 
 use monoid::Monoid;
-use monoid::line_column::LineColumn;
-use monoid::pair::Pair;
 use refusal::Refusal;
+use text_shelf::named::MarkedShelf;
 use text_shelf::shelf::Shelf;
 use zemor::matrix::Sl2;
 
@@ -16,14 +15,15 @@ pub fn calls<'b, 'a, M: Monoid>(_shelf: &Shelf<'b, 'a, M>)
     ensures { Keeps every_shelf M.Monoid.model _shelf.now (λ s. ⊤) }
 {}
 
-/// The summary of document `d`.
+/// The summary of document `d`. Refused with NO DOCUMENT. Takes constant time.
 pub fn summary<'b, 'a, M: Monoid>(shelf: &Shelf<'b, 'a, M>, d: u32) -> Result<M, Refusal>
     ensures { Tells every_shelf shelf.now (DocumentFolds M.Monoid.model d result) }
 {
-    shelf.view().summary(d)
+    Ok(shelf.view().document(d)?.summary())
 }
 
-/// The summary of the part `a` to `b` of document `d`.
+/// The summary of the part `a` to `b` of document `d`. Refused with NO DOCUMENT, and then with BAD PART. Takes time in the
+/// height of the document.
 pub fn part_summary<'b, 'a, M: Monoid>(
     shelf: &Shelf<'b, 'a, M>,
     d: u32,
@@ -35,11 +35,12 @@ pub fn part_summary<'b, 'a, M: Monoid>(
     shelf.view().part_summary(d, a, b)
 }
 
-/// The fingerprints of document `d` of one marked shelf and of document `e` of another, or of the same.
+/// The fingerprints of document `d` of one marked shelf and of document `e` of another, or of the same. Refused with NO
+/// DOCUMENT where either is not there. Takes constant time.
 pub fn fingerprints<'b, 'a, 'c, 'd>(
-    one: &Shelf<'b, 'a, Pair<Sl2, LineColumn>>,
+    one: &MarkedShelf<'b, 'a>,
     d: u32,
-    other: &Shelf<'c, 'd, Pair<Sl2, LineColumn>>,
+    other: &MarkedShelf<'c, 'd>,
     e: u32,
 ) -> Result<(Sl2, Sl2), Refusal>
     ensures { Tells every_shelf one.now (λ s. Tells every_shelf other.now (SlipsTold d e result s)) }
@@ -49,9 +50,10 @@ pub fn fingerprints<'b, 'a, 'c, 'd>(
     Ok((x.first, y.first))
 }
 
-/// The window of at most five bytes that, in the place of the part `a` to `b` of document `d`, gives this fingerprint.
+/// The window of at most five bytes that, in the place of the part `a` to `b` of document `d`, gives this fingerprint, as
+/// `View::read_back` tells it.
 pub fn read_back<'b, 'a>(
-    shelf: &Shelf<'b, 'a, Pair<Sl2, LineColumn>>,
+    shelf: &MarkedShelf<'b, 'a>,
     d: u32,
     a: usize,
     b: usize,
