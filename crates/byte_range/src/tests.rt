@@ -1,13 +1,13 @@
 use crate::range::ByteRange;
 use monoid::Monoid;
-use rope::record::{Record, Shape, Source};
+use rope::record::{Record, Shape, Origin};
 use refusal::Refusal;
 use std::test::Fail;
 use text_shelf::shelf::Shelf;
 
 const BLANK: Record<ByteRange> = Record {
     shape: Shape::Leaf {
-        source: Source::Build,
+        origin: Origin::Build,
         start: 0,
     },
     length: 0,

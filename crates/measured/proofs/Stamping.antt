@@ -5,12 +5,13 @@ use Rattle.std.proofs.Math.Seq.{get_or-append_seam, take-length}
 use Rattle.std.proofs.lemmas.Slice.{between_from_start}
 use Rattle.std.proofs.lemmas.Bool.{ltb-false, or_parts}
 use Rattle.std.proofs.lemmas.List.{get_or_append_left, length-take, take_all}
-use Rattle.shelf_view.specs.Documents.{most}
+use Rattle.rope_cut.specs.Parts.{spliced}
+use Rattle.refusal.specs.declared.limits.TheConstants.{MOST_BYTES, MOST_TEXT}
 use Rattle.refusal.proofs.Firsts.{first_none}
 use Rattle.shelf_view.specs.State.{State, text_at}
 use Rattle.refusal.specs.declared.Refusal.{Refusal}
 use Rattle.text_shelf.specs.Shelves.{parts, brought, told, strings}
-use Rattle.text_shelf.specs.Calls.{appended, spliced, accepted, answer, reasons, every_shelf}
+use Rattle.text_shelf.specs.Calls.{appended, accepted, answer, reasons, every_shelf}
 use Rattle.text_shelf.specs.Steps.{Stepped, Steps, made}
 use Rattle.text_shelf.specs.Whys.{why}
 use Rattle.text_shelf.specs.declared.call.Call.{Call}
@@ -85,7 +86,7 @@ eight s d a b e none cut =
     let text = text_at z d in
     let pass = first_none (reasons (brought (parts s)) (told (parts s)) z (Splice d a b e)) none in
     let part = or_parts (ltb b a) (ltb (length text) b) pass.1.0 in
-    let short : length (spliced text a b (text_at z e)) ≤ most = ltb-false _ _ pass.1.1.0 in
+    let short : length (spliced text a b (text_at z e)) ≤ MOST_TEXT = ltb-false _ _ pass.1.1.0 in
     omega (arith, cut, short, ltb-false _ _ part.0, ltb-false _ _ part.1, length-append (take a text) (text_at z e ++ drop b text), length-take a text)
 
 -- the newest document with the stamp at one place more
@@ -101,7 +102,7 @@ stamps s t newest a b stamp n text places new old cut step =
     ((there.0, there.1 ∙ same), old_there added stamp (codes "gatsomev") old)
 
 -- a build text that is kept whole
-pub whole : (build kept : List ℕ) → kept ≡ take 16777216 build → length build ≤ length kept → between 0 (length build) kept ≡ build
+pub whole : (build kept : List ℕ) → kept ≡ take MOST_BYTES build → length build ≤ length kept → between 0 (length build) kept ≡ build
 whole build kept is fits =
-    let all : take 16777216 build ≡ build = take_all 16777216 build (omega (arith, fits, ap length is, length-take 16777216 build)) in
+    let all : take MOST_BYTES build ≡ build = take_all MOST_BYTES build (omega (arith, fits, ap length is, length-take MOST_BYTES build)) in
     between_from_start kept (length build) ∙ ap (take (length build)) (is ∙ all) ∙ take-length build

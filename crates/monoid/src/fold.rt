@@ -1,22 +1,11 @@
 //! The fold of a stretch of bytes, for every monoid.
 ghost use Rattle.std.specs.Prelude.{◌≡◌, ℕ, true, List, ◌++◌};
-ghost use Rattle.monoid.specs.Monoid.{fold_of, fold_from, all_bytes};
+ghost use Rattle.monoid.specs.Monoid.{fold_of, all_bytes};
 
 use crate::Monoid;
 
-/// `sum` joined, from left to right, with the value of each byte.
-pub fn lengthened<M: Monoid>(sum: M, text: &[u8]) -> M
-    ensures { result ≡ fold_from M.Monoid.model sum text.now }
-{
-    let mut sum = sum;
-    for b in text {
-        sum = sum.join(M::of_byte(*b));
-    }
-    sum
-}
-
-/// The empty value joined, from left to right, with the value of each byte. It goes by stretches of five bytes, which a
-/// monoid may know a shorter way for.
+/// The value of a text: from the empty value on, one byte's value after the other is joined behind. It goes by stretches of
+/// five bytes, which a monoid may know a shorter way for. Takes time in the length of the text.
 pub fn fold<M: Monoid>(text: &[u8]) -> M
     ensures value { result ≡ fold_of M.Monoid.model text.now }
     ensures parts { (u v : List ℕ) → text.now ≡ u ++ v → result ≡ M.Monoid.model.joined (fold_of M.Monoid.model u) (fold_of M.Monoid.model v) }
@@ -28,5 +17,5 @@ pub fn fold<M: Monoid>(text: &[u8]) -> M
         sum = sum.join(M::of_stretch(stretch));
         rest = more;
     }
-    lengthened(sum, rest)
+    sum.lengthened(rest)
 }

@@ -2,7 +2,7 @@
 #![tactic(auto)]
 
 ghost use Rattle.std.specs.Prelude.{◌≡◌};
-ghost use Rattle.monoid.specs.Monoid.{Model, Lawful, Inverse, fold_of, from_row};
+ghost use Rattle.monoid.specs.Monoid.{Model, Lawful, Inverse, fold_of, fold_from, from_row};
 
 pub mod fold;
 pub mod karp_rabin;
@@ -26,20 +26,27 @@ pub trait Monoid: Copy {
     fn of_byte(byte: u8) -> Self
         ensures { result ≡ model.of_byte byte };
 
-    /// The value of five bytes, one behind the other. A monoid may make it in its own way.
-    fn of_stretch(stretch: &[u8; 5]) -> Self
-        ensures { result ≡ fold_of model stretch.now }
+    /// The value of a text and another behind it.
+    fn join(self, other: Self) -> Self
+        ensures { result ≡ model.joined self other };
+
+    /// The value of a text with the bytes of `text` behind it: joined, from left to right, with the value of each.
+    fn lengthened(self, text: &[u8]) -> Self
+        ensures { result ≡ fold_from model self text.now }
     {
-        let mut sum = Self::empty();
-        for b in stretch {
+        let mut sum = self;
+        for b in text {
             sum = sum.join(Self::of_byte(*b));
         }
         sum
     }
 
-    /// The value of a text and another behind it.
-    fn join(self, other: Self) -> Self
-        ensures { result ≡ model.joined self other };
+    /// The value of five bytes, one behind the other. A monoid may make it in its own way.
+    fn of_stretch(stretch: &[u8; 5]) -> Self
+        ensures { result ≡ fold_of model stretch.now }
+    {
+        Self::empty().lengthened(stretch)
+    }
 
     /// The row of a value.
     fn to_row(self) -> Self::Row

@@ -5,6 +5,8 @@ ghost use Rattle.std.specs.Prelude.{◌≡◌, length};
 ghost use Rattle.refusal.specs.Refusals.{number_of};
 ghost use Rattle.refusal.specs.Writing.{Writes, of_room};
 
+pub mod limits;
+
 /// The numbered reasons. Each call tests its own in an order of its own, and answers the first that holds.
 #[derive(Clone, Copy, PartialEq, Eq, Debug)]
 pub enum Refusal {

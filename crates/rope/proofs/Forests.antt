@@ -8,7 +8,7 @@ use Rattle.rope.specs.Arena.{shaped, grown}
 use Rattle.rope.specs.declared.record.Record.{Record}
 use Rattle.rope.specs.declared.record.Shape.{Shape}
 use Rattle.rope.specs.declared.record.Shape.TheVariants.{Leaf, Inner}
-use Rattle.rope.specs.declared.record.Source.TheVariants.{Build, Added}
+use Rattle.rope.specs.declared.record.Origin.TheVariants.{Build, Added}
 
 module _ {R : Type 0} (build added : List ℕ) where
   pub grown_append : (before : List Tree) (rs more : List (Record R))

@@ -2,11 +2,11 @@
 use Rattle.std.proofs.Common.{◌≡◌, ℕ, ◌+◌, ◌-◌, ◌<◌, ◌≤◌, List, [], ◌++◌, length, get_or, take, drop, sym, refl, ap, ◌∙◌, arith, take-take}
 use Rattle.std.proofs.lemmas.List.{drop-drop, length-take-le, get_or_append_left, take-append-drop}
 use Rattle.rope.specs.Tree.{Tree, leaf}
-use Rattle.rope.specs.Arena.{grown, forest, source_of, source_text}
+use Rattle.rope.specs.Arena.{grown, forest, origin_of, origin_text}
 use Rattle.rope.specs.Memory.{arena_of, tree_of, Keeps, Free, Takes}
 use Rattle.rope.specs.Lents.{Fills}
 use Rattle.rope.specs.declared.record.Record.{Record}
-use Rattle.rope.specs.declared.record.Source.{Source}
+use Rattle.rope.specs.declared.record.Origin.{Origin}
 use Rattle.rope.specs.declared.store.Store.{Store}
 use Rattle.rope.proofs.Forests.{grown_append, grown_more, length_grown}
 
@@ -88,10 +88,10 @@ module _ {V R : Type 0} {kind : _} where
       ∙ get_or_append_left (forest (arena_of s)) rest (leaf []) i (omega (arith, forest_length s))
 
   -- both texts stay
-  pub source_keeps : {s t : Store V R kind} {n : ℕ} → Takes s t n → (source : Source) → source_text (arena_of t) source ≡ source_text (arena_of s) source
-  source_keeps {s} {t} p source =
+  pub source_keeps : {s t : Store V R kind} {n : ℕ} → Takes s t n → (origin : Origin) → origin_text (arena_of t) origin ≡ origin_text (arena_of s) origin
+  source_keeps {s} {t} p origin =
       let same : (arena_of t).added ≡ (arena_of s).added = ap (λ i. take i t.added.memory.now) p.added ∙ p.keeps.added.before in
-      ap (λ b. source_of b (arena_of t).added source) p.keeps.build ∙ ap (λ x. source_of s.build.now x source) same
+      ap (λ b. origin_of b (arena_of t).added origin) p.keeps.build ∙ ap (λ x. origin_of s.build.now x origin) same
 
   -- an operation that adds no text leaves the added memory as it was, to the byte
   pub takes_added : {s t : Store V R kind} {n : ℕ} → Takes s t n → t.added.memory.now ≡ s.added.memory.now

@@ -4,12 +4,12 @@ use Rattle.std.proofs.lemmas.List.{map_push, get_or_push}
 use Rattle.monoid.specs.Monoid.{Model, Lawful, fold_of, all_bytes}
 use Rattle.monoid.proofs.Folds.{fold_append}
 use Rattle.rope.specs.Tree.{Tree, leaf, text, size, height, all_lawful}
-use Rattle.rope.specs.Arena.{Arena, Sound, Summed, Reads, arena, forest, part, source_text, row_in}
+use Rattle.rope.specs.Arena.{Arena, Sound, Summed, Reads, arena, forest, part, origin_text, row_in}
 use Rattle.rope.specs.Memory.{arena_of, tree_of}
 use Rattle.rope.specs.Steps.{shown, Fine, Leafs, Pairs}
 use Rattle.rope.specs.declared.record.Record.{Record}
 use Rattle.rope.specs.declared.record.Shape.TheVariants.{Leaf, Inner}
-use Rattle.rope.specs.declared.record.Source.{Source}
+use Rattle.rope.specs.declared.record.Origin.{Origin}
 use Rattle.rope.specs.declared.store.Store.{Store}
 use Rattle.rope.proofs.Forests.{grown_append, all_lawful_push}
 use Rattle.rope.proofs.Readings.{lawful_node, lawful_leaf}
@@ -68,14 +68,14 @@ inner_fine m laws s l r p x y h v al ar high row =
 pub length_part : {X : Type 0} (xs : List X) (start n : ℕ) → start + n ≤ length xs → length (take n (drop start xs)) ≡ n
 length_part xs start n h = simp (length-take, length-drop) (omega arith)
 
-pub leaf_fine : {V R : Type 0} {kind : _} (m : Model V R) (s : Store V R kind) (source : Source) (start n : ℕ) (p : Leafs s source start n) (v : R)
-    → v ≡ m.row (fold_of m (part (arena_of s) source start n)) → all_bytes (part (arena_of s) source start n) ≡ true
-    → Fine m s (record { shape = Leaf source start; length = n; height = 0; row = v })
-leaf_fine m s source start n p v row bytes =
-    let long = length_part (source_text (arena_of s) source) start n p.within in
+pub leaf_fine : {V R : Type 0} {kind : _} (m : Model V R) (s : Store V R kind) (origin : Origin) (start n : ℕ) (p : Leafs s origin start n) (v : R)
+    → v ≡ m.row (fold_of m (part (arena_of s) origin start n)) → all_bytes (part (arena_of s) origin start n) ≡ true
+    → Fine m s (record { shape = Leaf origin start; length = n; height = 0; row = v })
+leaf_fine m s origin start n p v row bytes =
+    let long = length_part (origin_text (arena_of s) origin) start n p.within in
     record {
       free = p.free;
-      lawful_tree = lawful_leaf (part (arena_of s) source start n) (record { some = omega (arith, long, p.some); short = omega (arith, long, p.short); bytes = bytes });
+      lawful_tree = lawful_leaf (part (arena_of s) origin start n) (record { some = omega (arith, long, p.some); short = omega (arith, long, p.short); bytes = bytes });
       long = sym long;
       high = refl;
       row = row;

@@ -4,9 +4,9 @@ use Rattle.std.proofs.lemmas.Bool.{and_parts, and_from, cases_lt, leb-true, ltb-
 use Rattle.std.proofs.lemmas.List.{get_or-take, get_or_past}
 use Rattle.monoid.specs.Monoid.{Model, all_bytes}
 use Rattle.rope.specs.Tree.{Tree, leaf, node, text, size, height, lawful}
-use Rattle.rope.specs.Arena.{Arena, shaped, forest, tree_at, source_text, part, row_in, Sound, Summed, Shows, Reads, Splits}
+use Rattle.rope.specs.Arena.{Arena, shaped, forest, tree_at, origin_text, part, row_in, Sound, Summed, Shows, Reads, Splits}
 use Rattle.rope.specs.declared.record.Record.{Record}
-use Rattle.rope.specs.declared.record.Source.{Source}
+use Rattle.rope.specs.declared.record.Origin.{Origin}
 use Rattle.rope.specs.declared.record.Shape.{Shape}
 use Rattle.rope.specs.declared.record.Shape.TheVariants.{Leaf, Inner}
 use Rattle.rope.proofs.Forests.{length_grown, grown_at, all_lawful_at, map_at}
@@ -64,8 +64,8 @@ child ts i l h =
 module _ {R : Type 0} (a : Arena R) (i : ℕ) where
   shows_from : (n : ℕ) (sh : Shape) → lawful (tree_at a i) ≡ true → n ≡ size (tree_at a i)
       → tree_at a i ≡ shaped a.build a.added (take i (forest a)) n sh → Shows a i n sh
-  shows_from n (Leaf source start) fair long is =
-      let xs = source_text a source in
+  shows_from n (Leaf origin start) fair long is =
+      let xs = origin_text a origin in
       let some = (leaf_facts (take n (drop start xs)) (subst (λ t. lawful t ≡ true) is fair)).some in
       let there : n ≡ min n (length xs - start) = long ∙ ap size is ∙ length-take n (drop start xs) ∙ ap (min n) (length-drop start xs) in
       let pos : 0 < min n (length xs - start) = subst (λ k. 0 < k) (length-take n (drop start xs) ∙ ap (min n) (length-drop start xs)) some in
@@ -103,7 +103,7 @@ module _ {V R : Type 0} {m : Model V R} {a : Arena R} {i : ℕ} {x : Record R} (
       let near = node_facts (tree_at a l) (tree_at a r) (subst (λ (t : Tree). lawful t ≡ true) shows.2 d.lawful_tree) in
       record { left = shows.0; right = shows.1; tree = shows.2; left_near = near.left_near; right_near = near.right_near }
 
-  pub leaf_of : {source : Source} {start : ℕ} → x.shape ≡ Leaf source start → (start + x.length ≤ length (source_text a source)) × (tree_at a i ≡ leaf (part a source start x.length))
+  pub leaf_of : {origin : Origin} {start : ℕ} → x.shape ≡ Leaf origin start → (start + x.length ≤ length (origin_text a origin)) × (tree_at a i ≡ leaf (part a origin start x.length))
   leaf_of is = subst (Shows a i x.length) is d.shows
 
 -- the length and the height of a record over two others

@@ -1,12 +1,13 @@
 -- What the used memory means: each record's tree, and what holds of all of them.
-use Rattle.std.specs.Prelude.{◌≡◌, ℕ, ◌+◌, ◌^◌, ◌<◌, ◌≤◌, Bool, true, List, [], ◌∷◌, ◌++◌, map, length, take, drop, Some, None, Option, nat_lt, slice_index_or}
+use Rattle.std.specs.Prelude.{◌≡◌, ℕ, ◌+◌, ◌<◌, ◌≤◌, Bool, true, List, [], ◌∷◌, ◌++◌, map, length, take, drop, Some, None, Option, nat_lt, slice_index_or}
+use Rattle.refusal.specs.declared.limits.TheConstants.{MOST_BYTES, MOST_RECORDS}
 use Rattle.monoid.specs.Monoid.{Model, fold_of, from_row}
 use Rattle.rope.specs.Tree.{Tree, leaf, node, text, size, height, lawful, all_lawful}
 use Rattle.rope.specs.declared.record.Record.{Record}
 use Rattle.rope.specs.declared.record.Shape.{Shape}
 use Rattle.rope.specs.declared.record.Shape.TheVariants.{Leaf, Inner}
-use Rattle.rope.specs.declared.record.Source.{Source}
-use Rattle.rope.specs.declared.record.Source.TheVariants.{Build, Added}
+use Rattle.rope.specs.declared.record.Origin.{Origin}
+use Rattle.rope.specs.declared.record.Origin.TheVariants.{Build, Added}
 
 -- what is used of the build text, of the added text and of the records
 pub record Arena (R : Type 0) : Type 0 where
@@ -17,15 +18,15 @@ pub record Arena (R : Type 0) : Type 0 where
 abbrev pub arena : {R : Type 0} → List ℕ → List ℕ → List (Record R) → Arena R
 arena build added records = record { build = build; added = added; records = records }
 
--- the text that a source names
-abbrev pub source_of : List ℕ → List ℕ → Source → List ℕ
-source_of build added Build = build
-source_of build added Added = added
+-- the text that a origin names
+abbrev pub origin_of : List ℕ → List ℕ → Origin → List ℕ
+origin_of build added Build = build
+origin_of build added Added = added
 
 -- what a record of n bytes stands for, by the trees of those before it; a place that is none of theirs counts as an
 -- empty leaf, which is not lawful
 abbrev pub shaped : List ℕ → List ℕ → List Tree → ℕ → Shape → Tree
-shaped build added before n (Leaf s start) = leaf (take n (drop start (source_of build added s)))
+shaped build added before n (Leaf s start) = leaf (take n (drop start (origin_of build added s)))
 shaped build added before n (Inner l r) = node (slice_index_or before l (leaf [])) (slice_index_or before r (leaf []))
 
 -- the trees of records, by the trees of those before them
@@ -42,18 +43,18 @@ forest a = grown a.build a.added [] a.records
 abbrev pub tree_at : {R : Type 0} → Arena R → ℕ → Tree
 tree_at a i = slice_index_or (forest a) i (leaf [])
 
-abbrev pub source_text : {R : Type 0} → Arena R → Source → List ℕ
-source_text a source = source_of a.build a.added source
+abbrev pub origin_text : {R : Type 0} → Arena R → Origin → List ℕ
+origin_text a origin = origin_of a.build a.added origin
 
--- n bytes from start on, of the text that source names
-abbrev pub part : {R : Type 0} → Arena R → Source → ℕ → ℕ → List ℕ
-part a source start n = take n (drop start (source_text a source))
+-- n bytes from start on, of the text that origin names
+abbrev pub part : {R : Type 0} → Arena R → Origin → ℕ → ℕ → List ℕ
+part a origin start n = take n (drop start (origin_text a origin))
 
 -- what always holds: the memory is not too large, each tree is lawful, and each record keeps its tree's length and height
 pub record Sound {R : Type 0} (a : Arena R) : Type 0 where
-  pub build_short : length a.build ≤ 2 ^ 24
-  pub added_short : length a.added ≤ 2 ^ 24
-  pub few : length a.records ≤ 65536
+  pub build_short : length a.build ≤ MOST_BYTES
+  pub added_short : length a.added ≤ MOST_BYTES
+  pub few : length a.records ≤ MOST_RECORDS
   pub lawful_trees : all_lawful (forest a) ≡ true
   pub lengths : map (λ r. r.length) a.records ≡ map size (forest a)
   pub heights : map (λ r. r.height) a.records ≡ map height (forest a)
@@ -68,7 +69,7 @@ Summed m a = map (λ r. r.row) a.records ≡ map (row_in m) (forest a)
 
 -- what the shape of record i, of n bytes, says of its tree
 abbrev pub Shows : {R : Type 0} → Arena R → ℕ → ℕ → Shape → Type 0
-Shows a i n (Leaf source start) = (start + n ≤ length (source_text a source)) × (tree_at a i ≡ leaf (part a source start n))
+Shows a i n (Leaf origin start) = (start + n ≤ length (origin_text a origin)) × (tree_at a i ≡ leaf (part a origin start n))
 Shows a i n (Inner l r) = (l < i) × (r < i) × (tree_at a i ≡ node (tree_at a l) (tree_at a r))
 
 -- what is known of record i, where it is r

@@ -1,18 +1,19 @@
 -- The memory of a store: what is used of it, and what an operation leaves as it was.
 use Rattle.std.specs.Prelude.{◌≡◌, ℕ, ◌+◌, ◌≤◌, length}
+use Rattle.refusal.specs.declared.limits.TheConstants.{MOST_RECORDS}
 use Rattle.rope.specs.Tree.{Tree}
 use Rattle.rope.specs.Arena.{Arena, arena, tree_at}
 use Rattle.rope.specs.Lents.{Fills}
 use Rattle.rope.specs.Held.{arena_in}
 use Rattle.rope.specs.declared.store.Store.{Store}
-use Rattle.rope.specs.declared.view.View.{View}
+use Rattle.rope.specs.declared.view.RopeView.{RopeView}
 
 -- what a store uses of its memory
 abbrev pub arena_of : {V R : Type 0} {kind : _} → Store V R kind → Arena R
 arena_of s = arena_in s.build.now s.added s.records
 
 -- what a view shows
-abbrev pub seen : {V R : Type 0} {kind : _} → View V R kind → Arena R
+abbrev pub seen : {V R : Type 0} {kind : _} → RopeView V R kind → Arena R
 seen v = arena v.build.now v.added.now v.records.now
 
 abbrev pub tree_of : {V R : Type 0} {kind : _} → Store V R kind → ℕ → Tree
@@ -27,7 +28,7 @@ pub record Keeps {V R : Type 0} {kind : _} (s t : Store V R kind) : Type 0 where
 -- n records are free
 pub record Free {V R : Type 0} {kind : _} (s : Store V R kind) (n : ℕ) : Type 0 where
   pub room : s.records.used + n ≤ length s.records.memory.now
-  pub few : s.records.used + n ≤ 65536
+  pub few : s.records.used + n ≤ MOST_RECORDS
 
 -- t is s with at most n records more, and no other text
 pub record Takes {V R : Type 0} {kind : _} (s t : Store V R kind) (n : ℕ) : Type 0 where

@@ -1,10 +1,11 @@
 -- What the operations of a store need and give.
 use Rattle.std.specs.Prelude.{◌≡◌, ℕ, ◌+◌, ◌-◌, ◌*◌, ◌/◌, ◌^◌, ◌<◌, ◌≤◌, true, List, ◌++◌, length}
+use Rattle.refusal.specs.declared.limits.TheConstants.{MOST_BYTES}
 use Rattle.monoid.specs.Monoid.{Model}
 use Rattle.rope.specs.Tree.{Tree, text, size, height, lawful}
-use Rattle.rope.specs.Arena.{shaped, row_in, part, source_text, forest}
+use Rattle.rope.specs.Arena.{shaped, row_in, part, origin_text, forest}
 use Rattle.rope.specs.Memory.{arena_of, tree_of, Keeps, Free, Takes}
-use Rattle.rope.specs.declared.record.Source.{Source}
+use Rattle.rope.specs.declared.record.Origin.{Origin}
 use Rattle.rope.specs.declared.record.Record.{Record}
 use Rattle.rope.specs.declared.store.Store.{Store}
 
@@ -28,11 +29,11 @@ pub record Pushed {V R : Type 0} {kind : _} (s t : Store V R kind) (r : ℕ) (u 
   pub tree : tree_of t r ≡ u
 
 -- what it takes to push a leaf
-pub record Leafs {V R : Type 0} {kind : _} (s : Store V R kind) (source : Source) (start n : ℕ) : Type 0 where
+pub record Leafs {V R : Type 0} {kind : _} (s : Store V R kind) (origin : Origin) (start n : ℕ) : Type 0 where
   pub free : Free s 1
   pub some : 0 < n
   pub short : n ≤ 64
-  pub within : start + n ≤ length (source_text (arena_of s) source)
+  pub within : start + n ≤ length (origin_text (arena_of s) origin)
 
 -- what it takes to push an inner record over l and r
 pub record Pairs {V R : Type 0} {kind : _} (s : Store V R kind) (l r : ℕ) : Type 0 where
@@ -46,7 +47,7 @@ pub record Pairs {V R : Type 0} {kind : _} (s : Store V R kind) (l r : ℕ) : Ty
 -- there is room for n bytes of added text
 pub record Addable {V R : Type 0} {kind : _} (s : Store V R kind) (n : ℕ) : Type 0 where
   pub room : s.added.used + n ≤ length s.added.memory.now
-  pub short : s.added.used + n ≤ 2 ^ 24
+  pub short : s.added.used + n ≤ MOST_BYTES
 
 -- the text bs stands behind the added text, from the place r on
 pub record Appended {V R : Type 0} {kind : _} (s t : Store V R kind) (r : ℕ) (bs : List ℕ) : Type 0 where
@@ -61,16 +62,16 @@ abbrev pub leaves : ℕ → ℕ
 leaves n = (n + 63) / 64
 
 -- what it takes to build a tree of a part
-pub record Buildable {V R : Type 0} {kind : _} (s : Store V R kind) (source : Source) (start n : ℕ) : Type 0 where
+pub record Buildable {V R : Type 0} {kind : _} (s : Store V R kind) (origin : Origin) (start n : ℕ) : Type 0 where
   pub free : Free s (2 * leaves n)
   pub some : 0 < n
-  pub within : start + n ≤ length (source_text (arena_of s) source)
+  pub within : start + n ≤ length (origin_text (arena_of s) origin)
 
 -- r is a tree of the part, as low as its leaves allow
-pub record Built {V R : Type 0} {kind : _} (s t : Store V R kind) (r : ℕ) (source : Source) (start n : ℕ) : Type 0 where
+pub record Built {V R : Type 0} {kind : _} (s t : Store V R kind) (r : ℕ) (origin : Origin) (start n : ℕ) : Type 0 where
   pub takes : Takes s t (2 * leaves n - 1)
   pub exactly : t.records.used + 1 ≡ s.records.used + 2 * leaves n
   pub below : r < t.records.used
-  pub text_is : text (tree_of t r) ≡ part (arena_of s) source start n
+  pub text_is : text (tree_of t r) ≡ part (arena_of s) origin start n
   pub high : leaves n ≤ 2 ^ height (tree_of t r)
   pub low : 0 < height (tree_of t r) → 2 ^ (height (tree_of t r) - 1) < leaves n

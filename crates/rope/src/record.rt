@@ -1,27 +1,27 @@
 //! What a record holds, and where a text's tree is.
 ghost use Rattle.std.specs.Prelude.{◌≡◌};
-ghost use Rattle.rope.specs.declared.record.Source.TheVariants.{Build};
+ghost use Rattle.rope.specs.declared.record.Origin.TheVariants.{Build};
 ghost use Rattle.rope.specs.declared.record.Shape.TheVariants.{Leaf};
 
 /// The text that a leaf is a part of.
 #[derive(Clone, Copy)]
-pub enum Source {
+pub enum Origin {
     Build,
     Added,
 }
 
-/// The `len` bytes from `start` on of the text that `source` names.
+/// The `len` bytes from `start` on of the text that `origin` names.
 #[derive(Clone, Copy)]
 pub struct Piece {
-    pub source: Source,
+    pub origin: Origin,
     pub start: u32,
     pub len: u32,
 }
 
 #[derive(Clone, Copy)]
 pub enum Shape {
-    /// The bytes of `source` from `start` on.
-    Leaf { source: Source, start: u32 },
+    /// The bytes of `origin` from `start` on.
+    Leaf { origin: Origin, start: u32 },
     /// Two earlier records, by their places: records lie in memory that the caller lends, so there is no `Box`.
     Inner { left: u32, right: u32 },
 }
@@ -42,7 +42,7 @@ impl<R> Record<R> {
     {
         Record {
             shape: Shape::Leaf {
-                source: Source::Build,
+                origin: Origin::Build,
                 start: 0,
             },
             length: 0,

@@ -5,17 +5,12 @@ ghost use Rattle.rope.specs.Held.{arena_in};
 use crate::lent::Lent;
 use crate::record::Record;
 use monoid::Monoid;
+use refusal::limits::{MOST_BYTES, MOST_RECORDS};
 
 mod append;
 mod base;
 mod build;
 mod push;
-
-/// At most so many records are used, however many are lent.
-const MOST_RECORDS: usize = 65536;
-
-/// At most so many bytes of either text are used.
-const MOST_BYTES: usize = 16777216;
 
 /// The lent memory: its trees are lawful, and each record keeps the summary of its text.
 #[derive(Drop)]

@@ -2,12 +2,12 @@
 ghost use Rattle.std.specs.Prelude.{◌≡◌, ⊤};
 ghost use Rattle.rope.specs.Arena.{Sound, Summed, arena};
 
-use crate::record::{Piece, Record, Source};
+use crate::record::{Origin, Piece, Record};
 use monoid::Monoid;
 use std::alloc::AllocError;
 
 /// What is used of both texts and of the records. All that only reads goes by a view.
-pub struct View<'v, M: Monoid> {
+pub struct RopeView<'v, M: Monoid> {
     build: &'v [u8],
     added: &'v [u8],
     records: &'v [Record<M::Row>],
@@ -16,30 +16,30 @@ pub struct View<'v, M: Monoid> {
 }
 
 // by hand: `derive(Clone, Copy)` was tried and is refused over the ghost fields of a generic struct
-impl<'v, M: Monoid> Clone for View<'v, M> {
+impl<'v, M: Monoid> Clone for RopeView<'v, M> {
     ghost is_clone = { λ x y. y ≡ x };
 
     ghost is_infallible = { λ _. ⊤ };
 
-    fn clone(&self) -> Result<View<'v, M>, AllocError> {
+    fn clone(&self) -> Result<RopeView<'v, M>, AllocError> {
         Ok(*self)
     }
 }
 
-impl<'v, M: Monoid> Copy for View<'v, M> {}
+impl<'v, M: Monoid> Copy for RopeView<'v, M> {}
 
-impl<'v, M: Monoid> View<'v, M> {
+impl<'v, M: Monoid> RopeView<'v, M> {
     ghost use Rattle.std.specs.Prelude.{◌+◌, ◌<◌, ◌≤◌, length};
-    ghost use Rattle.rope.specs.Arena.{Reads, part, source_text};
+    ghost use Rattle.rope.specs.Arena.{Reads, part, origin_text};
     ghost use Rattle.rope.specs.Memory.{seen};
 
     /// A view of used texts and records, whoever lends them.
-    pub fn new(build: &'v [u8], added: &'v [u8], records: &'v [Record<M::Row>]) -> View<'v, M>
+    pub fn new(build: &'v [u8], added: &'v [u8], records: &'v [Record<M::Row>]) -> RopeView<'v, M>
         requires sound { Sound (arena build.now added.now records.now) }
         requires summed { Summed M.Monoid.model (arena build.now added.now records.now) }
         ensures { seen result ≡ arena build.now added.now records.now }
     {
-        View {
+        RopeView {
             build,
             added,
             records,
@@ -63,14 +63,14 @@ impl<'v, M: Monoid> View<'v, M> {
 
     /// The bytes of a piece.
     pub fn bytes(self, piece: Piece) -> &'v [u8]
-        requires { piece.start + piece.len ≤ length (source_text (seen self) piece.source) }
-        ensures { result.now ≡ part (seen self.entry) piece.source piece.start piece.len }
+        requires { piece.start + piece.len ≤ length (origin_text (seen self) piece.origin) }
+        ensures { result.now ≡ part (seen self.entry) piece.origin piece.start piece.len }
     {
         let from = piece.start as usize;
         let to = from + piece.len as usize;
-        match piece.source {
-            Source::Build => &self.build[from..to],
-            Source::Added => &self.added[from..to],
+        match piece.origin {
+            Origin::Build => &self.build[from..to],
+            Origin::Added => &self.added[from..to],
         }
     }
 }

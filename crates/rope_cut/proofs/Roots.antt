@@ -128,7 +128,7 @@ module _ {V R : Type 0} {kind : _} {s s1 : Store V R kind} {p q before : Root} {
       last_free = free_after (join_cost s3 before tail) (edit_need (higher s p q)) (omega (arith, before_low, tail_low)) h.free three
 
       pub replaced : {s4 : Store V R kind} {r : Root} → Makes s3 s4 r (text_in s3 before ++ text_in s3 tail) (join_cost s3 before tail) (higher s3 before tail + 1)
-          → Makes s s4 r (spliced s p a b q) (splice_cost (higher s p q) (height_in s4 r)) (higher s p q + 2)
+          → Makes s s4 r (spliced (text_in s p) a b (text_in s q)) (splice_cost (higher s p q) (height_in s4 r)) (higher s p q + 2)
       replaced {s4} {r} v =
           record {
             takes = takes_within (splice_cost (higher s p q) (height_in s4 r)) (omega (arith, before_low, tail_low)) (takes_trans three v.takes);

@@ -59,7 +59,7 @@ module _ {V R : Type 0} {kind : _} {s : Store V R kind} {i l r a b : ℕ} {q : R
 
   -- where the left child changes
   module _ (within : b ≤ size (tree_of s l)) (low : height_in s q ≤ height (tree_of s l)) {s1 : Store V R kind} {x : Root}
-      (y : Makes s s1 x (spliced s (Some l) a b q) (splice_cost (higher s (Some l) q) (height_in s1 x)) (higher s (Some l) q + 2)) where
+      (y : Makes s s1 x (spliced (text_in s (Some l)) a b (text_in s q)) (splice_cost (higher s (Some l) q) (height_in s1 x)) (higher s (Some l) q + 2)) where
     right_kept : Stays s s1 (Some r)
     right_kept = root_stays y.takes.keeps (Some r) (lt-ltb r s.records.used (omega (arith, below, e.right)))
 
@@ -85,7 +85,7 @@ module _ {V R : Type 0} {kind : _} {s : Store V R kind} {i l r a b : ℕ} {q : R
 
     pub left_done : {s2 : Store V R kind} {z : Root} → Makes s1 s2 z (text_in s1 x ++ text_in s1 (Some r)) (join_cost s1 x (Some r)) (higher s1 x (Some r) + 1)
         → higher s1 x (Some r) ≤ height_in s2 z
-        → Makes s s2 z (spliced s (Some i) a b q) (splice_cost (higher s (Some i) q) (height_in s2 z)) (higher s (Some i) q + 2)
+        → Makes s s2 z (spliced (text_in s (Some i)) a b (text_in s q)) (splice_cost (higher s (Some i) q) (height_in s2 z)) (higher s (Some i) q + 2)
     left_done {s2} {z} j least =
         let tl = text (tree_of s l) in
         let tr = text (tree_of s r) in
@@ -100,7 +100,7 @@ module _ {V R : Type 0} {kind : _} {s : Store V R kind} {i l r a b : ℕ} {q : R
 
   -- where the right child changes
   module _ (n : ℕ) (long : n ≡ size (tree_of s l)) (past : n ≤ a) (low : height_in s q ≤ height (tree_of s r)) {s1 : Store V R kind} {x : Root}
-      (y : Makes s s1 x (spliced s (Some r) (a - n) (b - n) q) (splice_cost (higher s (Some r) q) (height_in s1 x)) (higher s (Some r) q + 2)) where
+      (y : Makes s s1 x (spliced (text_in s (Some r)) (a - n) (b - n) (text_in s q)) (splice_cost (higher s (Some r) q) (height_in s1 x)) (higher s (Some r) q + 2)) where
     left_kept : Stays s s1 (Some l)
     left_kept = root_stays y.takes.keeps (Some l) (lt-ltb l s.records.used (omega (arith, below, e.left)))
 
@@ -131,7 +131,7 @@ module _ {V R : Type 0} {kind : _} {s : Store V R kind} {i l r a b : ℕ} {q : R
 
     pub right_done : {s2 : Store V R kind} {z : Root} → Makes s1 s2 z (text_in s1 (Some l) ++ text_in s1 x) (join_cost s1 (Some l) x) (higher s1 (Some l) x + 1)
         → higher s1 (Some l) x ≤ height_in s2 z
-        → Makes s s2 z (spliced s (Some i) a b q) (splice_cost (higher s (Some i) q) (height_in s2 z)) (higher s (Some i) q + 2)
+        → Makes s s2 z (spliced (text_in s (Some i)) a b (text_in s q)) (splice_cost (higher s (Some i) q) (height_in s2 z)) (higher s (Some i) q + 2)
     right_done {s2} {z} j least =
         let tl = text (tree_of s l) in
         let tr = text (tree_of s r) in

@@ -64,6 +64,6 @@ pub record Spliceable {V R : Type 0} {kind : _} (s : Store V R kind) (p : Root) 
   pub short : length (text_in s p) - (b - a) + length (text_in s q) < 2 ^ 32
   pub free : Free s (edit_need (higher s p q))
 
--- the text at p with its part a to b replaced by that at q
-abbrev pub spliced : {V R : Type 0} {kind : _} → Store V R kind → Root → ℕ → ℕ → Root → List ℕ
-spliced s p a b q = take a (text_in s p) ++ (text_in s q ++ drop b (text_in s p))
+-- the text d with its part a to b replaced by e
+abbrev pub spliced : List ℕ → ℕ → ℕ → List ℕ → List ℕ
+spliced d a b e = take a d ++ (e ++ drop b d)

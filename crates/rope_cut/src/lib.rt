@@ -25,8 +25,8 @@ fn front_at<'b, 'a, M: Monoid>(store: &mut Store<'b, 'a, M>, i: u32, b: u32) -> 
         return i;
     }
     match top.shape {
-        Shape::Leaf { source, start } => store.push_leaf(Piece {
-            source,
+        Shape::Leaf { origin, start } => store.push_leaf(Piece {
+            origin,
             start,
             len: b,
         }),
@@ -53,8 +53,8 @@ fn back_at<'b, 'a, M: Monoid>(store: &mut Store<'b, 'a, M>, i: u32, a: u32) -> u
     }
     let top = store.record(i);
     match top.shape {
-        Shape::Leaf { source, start } => store.push_leaf(Piece {
-            source,
+        Shape::Leaf { origin, start } => store.push_leaf(Piece {
+            origin,
             start: start + a,
             len: top.length - a,
         }),
@@ -143,7 +143,7 @@ fn replace<'b, 'a, M: Monoid>(
     other: Root,
 ) -> Root
     requires { Spliceable store.old root a b other }
-    ensures { Makes store.old store.new result (spliced store.old root a b other) (splice_cost (higher store.old root other) (height_in store.new result)) (higher store.old root other + 2) }
+    ensures { Makes store.old store.new result (spliced (text_in store.old root) a b (text_in store.old other)) (splice_cost (higher store.old root other) (height_in store.new result)) (higher store.old root other + 2) }
 {
     let before = front(store, root, a);
     let behind = back(store, root, b);
@@ -162,7 +162,7 @@ fn splice_at<'b, 'a, M: Monoid>(
     other: Root,
 ) -> Root
     requires { Spliceable store.old (Some i) a b other }
-    ensures { Makes store.old store.new result (spliced store.old (Some i) a b other) (splice_cost (higher store.old (Some i) other) (height_in store.new result)) (higher store.old (Some i) other + 2) }
+    ensures { Makes store.old store.new result (spliced (text_in store.old (Some i)) a b (text_in store.old other)) (splice_cost (higher store.old (Some i) other) (height_in store.new result)) (higher store.old (Some i) other + 2) }
 {
     if let Shape::Inner { left, right } = store.record(i).shape {
         let least = root_height(store, other);

@@ -30,7 +30,7 @@ fn children<'b, 'a, M: Monoid>(store: &Store<'b, 'a, M>, i: u32) -> (u32, u32)
 {
     match store.record(i).shape {
         Shape::Leaf {
-            source: _,
+            origin: _,
             start: _,
         } => unreachable(),
         Shape::Inner { left, right } => (left, right),

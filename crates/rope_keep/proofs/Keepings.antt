@@ -2,19 +2,20 @@
 use Rattle.std.proofs.Common.{◌≡◌, ℕ, ◌+◌, ◌^◌, ◌<◌, ◌≤◌, max, List, [], ◌∷◌, ◌++◌, length, take, drop, sym, refl, ap, ◌∙◌, append-nil, arith, length-append, Some, None}
 use Rattle.std.proofs.lemmas.List.{take_all, drop_at, length-take-le}
 use Rattle.std.proofs.lemmas.Bool.{lt-ltb}
+use Rattle.refusal.specs.declared.limits.TheConstants.{MOST_BROUGHT}
 use Rattle.rope.specs.Tree.{height}
 use Rattle.rope.specs.Arena.{part}
 use Rattle.rope.specs.Memory.{arena_of, tree_of, Free}
 use Rattle.rope.specs.Steps.{leaves, Appended, Buildable, Built}
 use Rattle.rope.specs.Arena.{Root}
-use Rattle.rope.specs.declared.record.Source.{Source}
-use Rattle.rope.specs.declared.record.Source.TheVariants.{Added}
+use Rattle.rope.specs.declared.record.Origin.{Origin}
+use Rattle.rope.specs.declared.record.Origin.TheVariants.{Added}
 use Rattle.rope.specs.declared.store.Store.{Store}
 use Rattle.rope.proofs.Keeping.{keeps_none, keeps_trans}
 use Rattle.rope.proofs.Levels.{level_most}
 use Rattle.rope_cut.specs.Parts.{Rooted, Makes, text_in, height_in, higher, join_cost, edit_need}
 use Rattle.rope_cut.proofs.Roots.{Stays, root_stays, rooted_stays}
-use Rattle.rope_keep.specs.Kept.{Grows, Stands, need_of_text, add_need}
+use Rattle.rope_keep.specs.Kept.{Grows, Stands, text_need, add_need}
 
 nothing : (bs : List ℕ) → length bs ≡ 0 → bs ≡ []
 nothing [] e = refl
@@ -32,8 +33,8 @@ grows_none s bs n e =
       cost = omega arith;
     }
 
-pub stands_built : {V R : Type 0} {kind : _} {s t : Store V R kind} {r : ℕ} (source : Source) (start n : ℕ) (bs : List ℕ) → Built s t r source start n → part (arena_of s) source start n ≡ bs → length bs ≡ n → Stands t (Some r) bs
-stands_built {t} {r} source start n bs b is long =
+pub stands_built : {V R : Type 0} {kind : _} {s t : Store V R kind} {r : ℕ} (origin : Origin) (start n : ℕ) (bs : List ℕ) → Built s t r origin start n → part (arena_of s) origin start n ≡ bs → length bs ≡ n → Stands t (Some r) bs
+stands_built {t} {r} origin start n bs b is long =
     let more = ap leaves long in
     record {
       root = lt-ltb r t.records.used b.below;
@@ -42,7 +43,7 @@ stands_built {t} {r} source start n bs b is long =
       six = λ h. level_most (height (tree_of t r)) (leaves n) 6 (record { high = b.high; low = b.low }) (omega arith);
     }
 
-module _ {V R : Type 0} {kind : _} {s s1 : Store V R kind} {at : ℕ} {bs : List ℕ} (free : Free s (need_of_text (length bs))) (some : 0 < length bs) (p : Appended s s1 at bs) where
+module _ {V R : Type 0} {kind : _} {s s1 : Store V R kind} {at : ℕ} {bs : List ℕ} (free : Free s (text_need (length bs))) (some : 0 < length bs) (p : Appended s s1 at bs) where
   long : length (arena_of s).added ≡ at
   long = length-take-le s.added.used s.added.memory.now s.added.within ∙ sym p.at
 
@@ -60,7 +61,7 @@ module _ {V R : Type 0} {kind : _} {s s1 : Store V R kind} {at : ℕ} {bs : List
       ∙ ap (take (length bs)) (drop_at (arena_of s).added bs at long)
       ∙ take_all (length bs) bs (omega arith)
 
-  pub kept_grows : {s2 : Store V R kind} {r : ℕ} → Built s1 s2 r Added at (length bs) → Grows s s2 bs (need_of_text (length bs))
+  pub kept_grows : {s2 : Store V R kind} {r : ℕ} → Built s1 s2 r Added at (length bs) → Grows s s2 bs (text_need (length bs))
   kept_grows {s2} b =
       let same : (arena_of s2).added ≡ (arena_of s1).added = ap (λ i. take i s2.added.memory.now) b.takes.added ∙ b.takes.keeps.added.before in
       record {
@@ -70,8 +71,8 @@ module _ {V R : Type 0} {kind : _} {s s1 : Store V R kind} {at : ℕ} {bs : List
         cost = omega (arith, b.takes.cost, ap (λ r. r.used) p.records);
       }
 
-module _ {V R : Type 0} {kind : _} {s s1 : Store V R kind} {p more : Root} {bs : List ℕ} (here : Rooted s p) (short : (length bs ≤ 4096) × (length (text_in s p) + length bs < 2 ^ 32))
-    (free : Free s (add_need (height_in s p) (length bs))) (grown : Grows s s1 bs (need_of_text (length bs))) (stood : Stands s1 more bs) where
+module _ {V R : Type 0} {kind : _} {s s1 : Store V R kind} {p more : Root} {bs : List ℕ} (here : Rooted s p) (short : (length bs ≤ MOST_BROUGHT) × (length (text_in s p) + length bs < 2 ^ 32))
+    (free : Free s (add_need (height_in s p) (length bs))) (grown : Grows s s1 bs (text_need (length bs))) (stood : Stands s1 more bs) where
   p1 : Stays s s1 p
   p1 = root_stays grown.keeps p here.root
 

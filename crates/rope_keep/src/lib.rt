@@ -3,22 +3,23 @@
 #![tactic(auto)]
 
 ghost use Rattle.std.specs.Prelude.{◌≡◌, ◌+◌, ◌^◌, ◌<◌, ◌≤◌, max, true, ◌++◌, length, take, drop};
+ghost use Rattle.refusal.specs.declared.limits.TheConstants.{MOST_BROUGHT};
 ghost use Rattle.rope.specs.Arena.{rooted};
 ghost use Rattle.rope.specs.Memory.{Free, Takes};
 ghost use Rattle.rope_cut.specs.Parts.{Rooted, text_in, height_in};
 ghost use Rattle.rope.specs.Steps.{Addable};
-ghost use Rattle.rope_keep.specs.Kept.{Grows, Stands, need_of_text, add_need};
+ghost use Rattle.rope_keep.specs.Kept.{Grows, Stands, text_need, add_need};
 
 use monoid::Monoid;
-use rope::record::{Piece, Root, Source};
+use rope::record::{Origin, Piece, Root};
 use rope::store::Store;
 use rope_cut::join_roots;
 
 /// Writes `text` behind the added text, and builds a tree of it.
 pub fn keep<'b, 'a, M: Monoid>(store: &mut Store<'b, 'a, M>, text: &[u8]) -> Root
     requires addable { Addable store.old (length text.now) }
-    requires free { Free store.old (need_of_text (length text.now)) }
-    ensures grows { Grows store.old store.new text.now (need_of_text (length text.now)) }
+    requires free { Free store.old (text_need (length text.now)) }
+    ensures grows { Grows store.old store.new text.now (text_need (length text.now)) }
     ensures stands { Stands store.new result text.now }
 {
     if text.is_empty() {
@@ -26,7 +27,7 @@ pub fn keep<'b, 'a, M: Monoid>(store: &mut Store<'b, 'a, M>, text: &[u8]) -> Roo
     }
     let from = store.append(text);
     Some(store.build(Piece {
-        source: Source::Added,
+        origin: Origin::Added,
         start: from as u32,
         len: text.len() as u32,
     }))
@@ -35,15 +36,15 @@ pub fn keep<'b, 'a, M: Monoid>(store: &mut Store<'b, 'a, M>, text: &[u8]) -> Roo
 /// A tree of the `count` bytes from `start` on of the build text.
 pub fn take_part<'b, 'a, M: Monoid>(store: &mut Store<'b, 'a, M>, start: u32, count: u32) -> Root
     requires within { start + count ≤ length store.old.build.now }
-    requires free { Free store.old (need_of_text count) }
-    ensures takes { Takes store.old store.new (need_of_text count) }
+    requires free { Free store.old (text_need count) }
+    ensures takes { Takes store.old store.new (text_need count) }
     ensures stands { Stands store.new result (take count (drop start store.old.build.now)) }
 {
     if count == 0 {
         return None;
     }
     Some(store.build(Piece {
-        source: Source::Build,
+        origin: Origin::Build,
         start,
         len: count,
     }))
@@ -53,7 +54,7 @@ pub fn take_part<'b, 'a, M: Monoid>(store: &mut Store<'b, 'a, M>, start: u32, co
 pub fn lengthen<'b, 'a, M: Monoid>(store: &mut Store<'b, 'a, M>, root: Root, text: &[u8]) -> Root
     requires rooted { Rooted store.old root }
     requires addable { Addable store.old (length text.now) }
-    requires short { (length text.now ≤ 4096) × (length (text_in store.old root) + length text.now < 2 ^ 32) }
+    requires short { (length text.now ≤ MOST_BROUGHT) × (length (text_in store.old root) + length text.now < 2 ^ 32) }
     requires free { Free store.old (add_need (height_in store.old root) (length text.now)) }
     ensures grows { Grows store.old store.new text.now (add_need (height_in store.old root) (length text.now)) }
     ensures root { rooted store.new.records.used result ≡ true }

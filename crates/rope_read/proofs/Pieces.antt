@@ -7,10 +7,10 @@ use Rattle.std.proofs.lemmas.Slice.{between_is}
 use Rattle.std.specs.List.{between}
 use Rattle.monoid.specs.Monoid.{Model}
 use Rattle.rope.specs.Tree.{Tree, text, size}
-use Rattle.rope.specs.Arena.{Arena, Reads, Splits, tree_at, part, source_text}
+use Rattle.rope.specs.Arena.{Arena, Reads, Splits, tree_at, part, origin_text}
 use Rattle.rope.specs.declared.record.Record.{Record}
 use Rattle.rope.specs.declared.record.Shape.TheVariants.{Leaf}
-use Rattle.rope.specs.declared.record.Source.{Source}
+use Rattle.rope.specs.declared.record.Origin.{Origin}
 use Rattle.rope.proofs.Readings.{leaf_of}
 
 module _ (xs ys : List ℕ) (a b : ℕ) where
@@ -39,12 +39,12 @@ module _ {R : Type 0} {v : Arena R} {i l r : ℕ} (e : Splits v i l r) (a b n : 
   pub piece_both : a < n → n < b → between a n (text (tree_at v l)) ++ between 0 (b - n) (text (tree_at v r)) ≡ between a b (text (tree_at v i))
   piece_both h k = sym (in_both (text (tree_at v l)) (text (tree_at v r)) a b n long h k) ∙ whole
 
--- the part of a leaf's text is a part of its source
-pub piece_part : {V R : Type 0} {m : Model V R} {v : Arena R} {i start : ℕ} {x : Record R} {source : Source} → Reads m v i x → x.shape ≡ Leaf source start
-    → (a b : ℕ) → b ≤ size (tree_at v i) → part v source (start + a) (b - a) ≡ between a b (text (tree_at v i))
-piece_part {v} {start} {x} {source} d is a b within =
-    let from = drop start (source_text v source) in
-    ap (take (b - a)) (sym (drop-drop a start (source_text v source))) ∙ between_is from a b
+-- the part of a leaf's text is a part of its origin
+pub piece_part : {V R : Type 0} {m : Model V R} {v : Arena R} {i start : ℕ} {x : Record R} {origin : Origin} → Reads m v i x → x.shape ≡ Leaf origin start
+    → (a b : ℕ) → b ≤ size (tree_at v i) → part v origin (start + a) (b - a) ≡ between a b (text (tree_at v i))
+piece_part {v} {start} {x} {origin} d is a b within =
+    let from = drop start (origin_text v origin) in
+    ap (take (b - a)) (sym (drop-drop a start (origin_text v origin))) ∙ between_is from a b
     ∙ ap (drop a) (sym (take-take b x.length from (omega (arith, d.long)))) ∙ sym (between_is (take x.length from) a b)
     ∙ ap (λ (t : Tree). between a b (text t)) (sym (leaf_of d is).1)
 

@@ -7,13 +7,13 @@ use crate::tree::{byte_at, copy_at, fold_at};
 use monoid::Monoid;
 use refusal::Refusal;
 use rope::record::Root;
-use rope::view::View;
+use rope::view::RopeView;
 use std::alloc::AllocError;
 
 /// The bytes between two places of the text at a root, over the memory that a view shows: what `&str` is to a `String`. A
 /// slice has no height.
 pub struct Text<'v, M: Monoid> {
-    view: View<'v, M>,
+    view: RopeView<'v, M>,
     root: Root,
     from: u32,
     to: u32,
@@ -51,7 +51,7 @@ impl<'v, M: Monoid> Text<'v, M> {
     ghost use Rattle.rope_read.specs.Texts.{bytes_of, of_bounds, of_place, IsSlice};
 
     /// The first `len` bytes of the text at a root.
-    pub(crate) fn front(view: View<'v, M>, root: Root, len: u32) -> Text<'v, M>
+    pub(crate) fn front(view: RopeView<'v, M>, root: Root, len: u32) -> Text<'v, M>
         requires root { rooted (length view.records.now) root ≡ true }
         requires within { len ≤ length (text_of (seen view) root) }
         ensures place { (result.view ≡ view.entry) × (result.root ≡ root) }

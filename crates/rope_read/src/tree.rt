@@ -10,19 +10,19 @@ ghost use Rattle.rope.specs.Memory.{seen};
 use monoid::Monoid;
 use monoid::fold::fold;
 use rope::record::{Piece, Shape};
-use rope::view::View;
+use rope::view::RopeView;
 
 /// The byte at the place `at` of the tree `i`.
-pub(crate) fn byte_at<'v, M: Monoid>(view: View<'v, M>, i: u32, at: u32) -> u8
+pub(crate) fn byte_at<'v, M: Monoid>(view: RopeView<'v, M>, i: u32, at: u32) -> u8
     requires below { i < length view.records.now }
     requires within { at < size (tree_at (seen view) i) }
     ensures { result ≡ slice_index (text (tree_at (seen view.entry) i)) at }
 {
     let top = view.record(i);
     match top.shape {
-        Shape::Leaf { source, start } => {
+        Shape::Leaf { origin, start } => {
             let len = top.length;
-            view.bytes(Piece { source, start, len })[at as usize]
+            view.bytes(Piece { origin, start, len })[at as usize]
         }
         Shape::Inner { left, right } => {
             let split = view.record(left).length;
@@ -36,7 +36,7 @@ pub(crate) fn byte_at<'v, M: Monoid>(view: View<'v, M>, i: u32, at: u32) -> u8
 }
 
 /// The fold of the part `a` to `b` of the tree `i`. Trees that lie whole in the part are not entered.
-pub(crate) fn fold_at<'v, M: Monoid>(view: View<'v, M>, i: u32, a: u32, b: u32) -> M
+pub(crate) fn fold_at<'v, M: Monoid>(view: RopeView<'v, M>, i: u32, a: u32, b: u32) -> M
     requires below { i < length view.records.now }
     requires ordered { a ≤ b }
     requires within { b ≤ size (tree_at (seen view) i) }
@@ -47,9 +47,9 @@ pub(crate) fn fold_at<'v, M: Monoid>(view: View<'v, M>, i: u32, a: u32, b: u32) 
         return M::from_row(top.row);
     }
     match top.shape {
-        Shape::Leaf { source, start } => {
+        Shape::Leaf { origin, start } => {
             let (start, len) = (start + a, b - a);
-            fold(view.bytes(Piece { source, start, len }))
+            fold(view.bytes(Piece { origin, start, len }))
         }
         Shape::Inner { left, right } => {
             let split = view.record(left).length;
@@ -65,7 +65,7 @@ pub(crate) fn fold_at<'v, M: Monoid>(view: View<'v, M>, i: u32, a: u32, b: u32) 
 }
 
 /// Writes the part `a` to `b` of the tree `i` at the start of `out`.
-pub(crate) fn copy_at<'v, M: Monoid>(view: View<'v, M>, i: u32, a: u32, b: u32, out: &mut [u8])
+pub(crate) fn copy_at<'v, M: Monoid>(view: RopeView<'v, M>, i: u32, a: u32, b: u32, out: &mut [u8])
     requires below { i < length view.records.now }
     requires ordered { a ≤ b }
     requires within { b ≤ size (tree_at (seen view) i) }
@@ -74,9 +74,9 @@ pub(crate) fn copy_at<'v, M: Monoid>(view: View<'v, M>, i: u32, a: u32, b: u32, 
 {
     let top = view.record(i);
     match top.shape {
-        Shape::Leaf { source, start } => {
+        Shape::Leaf { origin, start } => {
             let (start, len) = (start + a, b - a);
-            let bytes = view.bytes(Piece { source, start, len });
+            let bytes = view.bytes(Piece { origin, start, len });
             out[..bytes.len()].copy_from_slice(bytes);
         }
         Shape::Inner { left, right } => {

@@ -1,18 +1,19 @@
 //! A whole text of a store, for reading.
 ghost use Rattle.std.specs.Prelude.{◌≡◌, ⊤, true, length};
+ghost use Rattle.refusal.specs.declared.limits.TheConstants.{MOST_TEXT};
 ghost use Rattle.rope.specs.Tree.{Fewest};
 ghost use Rattle.rope.specs.Arena.{rooted};
 
 use crate::text::Text;
 use monoid::Monoid;
 use rope::record::Root;
-use rope::view::View;
+use rope::view::RopeView;
 use std::alloc::AllocError;
 
 /// The whole text at a root, over the memory that a view shows: a document, or a draft. Beside its bytes it has a height, and
 /// keeps its summary.
 pub struct Whole<'v, M: Monoid> {
-    view: View<'v, M>,
+    view: RopeView<'v, M>,
     root: Root,
     ghost inside: { rooted (length view.records.now) root ≡ true },
 }
@@ -38,7 +39,7 @@ impl<'v, M: Monoid> Whole<'v, M> {
     ghost use Rattle.rope_read.specs.Texts.{bytes_of, whole_bytes};
 
     /// The text at `root`. Inner: whoever brings a root answers for it.
-    pub fn new(view: View<'v, M>, root: Root) -> Whole<'v, M>
+    pub fn new(view: RopeView<'v, M>, root: Root) -> Whole<'v, M>
         requires { rooted (length view.records.now) root ≡ true }
         ensures { (result.view ≡ view.entry) × (result.root ≡ root) }
     {
@@ -77,7 +78,7 @@ impl<'v, M: Monoid> Whole<'v, M> {
     /// How high its tree is, which is at most 28 for a text of at most 1,048,576 bytes. Takes constant time.
     pub fn height(self) -> u8
         ensures value { result ≡ height_of (seen self.entry.view) self.entry.root }
-        ensures low { length (whole_bytes self.entry) ≤ 1048576 → result ≤ 28 }
+        ensures low { length (whole_bytes self.entry) ≤ MOST_TEXT → result ≤ 28 }
     {
         self.root.map_or(0, |i| self.view.record(i).height)
     }

@@ -1,6 +1,7 @@
 -- Lists of calls by which shelves were reached.
 use Rattle.std.proofs.Common.{◌≡◌, ℕ, ◌+◌, ◌<◌, min, true, false, List, [], ◌∷◌, ◌++◌, map, length, take, is_ok, Some, None, Ok, Option, Result, sym, refl, ap, ◌∙◌, subst, arith, length-append}
 use Rattle.std.specs.Option.{option_map}
+use Rattle.refusal.specs.declared.limits.TheConstants.{MOST_BYTES, MOST_PLACES, MOST_RECORDS}
 use Rattle.monoid.specs.Monoid.{Model, Lawful, fold_of}
 use Rattle.rope.specs.Arena.{Root, Summed, text_of}
 use Rattle.rope.specs.Memory.{arena_of}
@@ -93,9 +94,9 @@ module _ {V R : Type 0} {kind : _} (s : Shelf V R kind) (build added : List ℕ)
   pub fresh_memory : brought (parts s) ≡ used_of build added records places mark
   fresh_memory = λ i. record {
     build = f.build_text i;
-    added = min (length (f.added_memory i)) 16777216;
-    records = min (length (f.records_memory i)) 65536;
-    places = min (length (f.places_memory i)) 4095;
+    added = min (length (f.added_memory i)) MOST_BYTES;
+    records = min (length (f.records_memory i)) MOST_RECORDS;
+    places = min (length (f.places_memory i)) MOST_PLACES;
     mark = f.mark_is i;
   }
 

@@ -4,9 +4,10 @@ use Rattle.std.specs.Option.{IfSome, is_some, ok_or, option_copied}
 use Rattle.std.proofs.lemmas.List.{get_or-map, length-map}
 use Rattle.std.proofs.lemmas.Bool.{and_parts, leb-true}
 use Rattle.std.proofs.lemmas.Bool.Decides.{nat_tests}
+use Rattle.refusal.specs.declared.limits.TheConstants.{MOST_TEXT}
 use Rattle.monoid.specs.Monoid.{Model}
 use Rattle.rope.specs.Arena.{Arena, Root, text_of, height_of, kept_of, rooted}
-use Rattle.shelf_view.specs.Documents.{fine, all_fine, most}
+use Rattle.shelf_view.specs.Documents.{fine, all_fine}
 use Rattle.rope_read.specs.Texts.{whole_bytes}
 use Rattle.rope_read.specs.declared.whole.Whole.{Whole}
 use Rattle.rope.specs.Memory.{seen}
@@ -23,10 +24,10 @@ fine_at a (p ∷ ps) zero d h l = (and_parts (fine a p) (all_fine a ps) h).0
 fine_at a (p ∷ ps) (suc i) d h l = fine_at a ps i d (and_parts (fine a p) (all_fine a ps) h).1 (omega arith)
 
 pub root_of : {R : Type 0} (a : Arena R) (p : Root) → fine a p ≡ true → rooted (length a.records) p ≡ true
-root_of a p h = (and_parts (rooted (length a.records) p) (leb (length (text_of a p)) most) h).0
+root_of a p h = (and_parts (rooted (length a.records) p) (leb (length (text_of a p)) MOST_TEXT) h).0
 
-pub short_of : {R : Type 0} (a : Arena R) (p : Root) → fine a p ≡ true → length (text_of a p) ≤ most
-short_of a p h = leb-true _ _ (and_parts (rooted (length a.records) p) (leb (length (text_of a p)) most) h).1
+pub short_of : {R : Type 0} (a : Arena R) (p : Root) → fine a p ≡ true → length (text_of a p) ≤ MOST_TEXT
+short_of a p h = leb-true _ _ (and_parts (rooted (length a.records) p) (leb (length (text_of a p)) MOST_TEXT) h).1
 
 module _ {V R : Type 0} (m : Model V R) (s : Shelved R) where
   lies_at : (i : ℕ) (p : Root) → i < length s.roots → p ≡ get_or s.roots i p → all_fine s.arena s.roots ≡ true → Lies m s (suc i) p

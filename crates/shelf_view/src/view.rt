@@ -5,7 +5,7 @@ ghost use Rattle.shelf_view.specs.Documents.{fine, all_fine, root_in};
 
 use monoid::Monoid;
 use rope::record::Root;
-use rope::view::View as RopeView;
+use rope::view::RopeView;
 use std::alloc::AllocError;
 
 mod base;

@@ -4,25 +4,26 @@ use Rattle.std.proofs.lemmas.List.{length-map, length-take-le, map-append, get_o
 use Rattle.std.specs.List.{between}
 use Rattle.std.proofs.lemmas.List.Edits.{length-between}
 use Rattle.std.proofs.lemmas.Bool.{ltb-false, or_parts}
+use Rattle.refusal.specs.declared.limits.TheConstants.{MOST_BYTES, MOST_PLACES, MOST_RECORDS, MOST_TEXT}
 use Rattle.rope.specs.Arena.{rooted, text_of, height_of}
 use Rattle.rope.specs.Memory.{arena_of, Takes}
 use Rattle.rope.specs.Arena.{Root}
 use Rattle.rope.specs.declared.store.Store.{Store}
 use Rattle.rope.proofs.Keeping.{takes_added}
 use Rattle.rope_keep.specs.Kept.{Grows}
-use Rattle.shelf_view.specs.Documents.{fine, all_fine, root_in, most}
+use Rattle.rope_cut.specs.Parts.{spliced}
+use Rattle.shelf_view.specs.Documents.{fine, all_fine, root_in}
 use Rattle.shelf_view.specs.State.{State, text_at}
 use Rattle.refusal.proofs.Firsts.{first_none}
 use Rattle.rope.specs.Held.{held, Gains}
 use Rattle.text_shelf.specs.Shelves.{Parts, parts, Brought, brought, Told, told, strings}
-use Rattle.text_shelf.specs.Calls.{appended, spliced, accepted, answer, need, brings, DraftHeight, reason, reasons, numbers_spent}
+use Rattle.text_shelf.specs.Calls.{appended, accepted, answer, need, brings, DraftHeight, reason, reasons, numbers_spent}
 use Rattle.text_shelf.specs.Steps.{Changed, Steps}
 use Rattle.text_shelf.specs.declared.call.Call.{Call}
 use Rattle.text_shelf.specs.declared.call.Call.TheVariants.{Put, Take, Cut, Splice}
 use Rattle.text_shelf.specs.declared.call.Answer.TheVariants.{Made}
 use Rattle.rope.specs.declared.lent.Lent.{Lent}
 use Rattle.text_shelf.specs.declared.shelf.Shelf.{Shelf}
-use Rattle.text_shelf.specs.declared.shelf.TheConstants.{MOST_PLACES}
 use Rattle.text_shelf.proofs.Staying.{fine_root, fine_stays, all_fine_stays, texts_stay, heights_stay, draft_stays, draft_height_stays, all_fine_push}
 
 pub count_texts : {V R : Type 0} {kind : _} (s : Parts V R kind) → length (strings s).texts ≡ s.places.used + 1
@@ -54,10 +55,10 @@ ghosts f = record { documents = f.documents; drafted = f.drafted }
 
 -- a place is free
 pub unspent : {V R : Type 0} {kind : _} (s : Parts V R kind) → numbers_spent (brought s) (strings s) ≡ false
-    → s.places.used < min (length s.places.memory.now) 4095
+    → s.places.used < min (length s.places.memory.now) MOST_PLACES
 unspent s h =
     let n = count_texts s in
-    let l : length (strings s).texts ≤ min (length s.places.memory.now) 4095 = ltb-false _ _ h in
+    let l : length (strings s).texts ≤ min (length s.places.memory.now) MOST_PLACES = ltb-false _ _ h in
     omega (arith, n, l)
 
 module _ {V R : Type 0} {kind : _} (s : Parts V R kind) (firm : Firm s) (store : Store V R kind) (bs : List ℕ) (n : ℕ) (g : Grows s.store store bs n) where
@@ -65,9 +66,9 @@ module _ {V R : Type 0} {kind : _} (s : Parts V R kind) (firm : Firm s) (store :
       → brought (record { store = store; places = places; draft = d; mark = s.mark; opened = o }) ≡ brought s
   same_room places h d o = λ i. record {
     build = g.keeps.build i;
-    added = min (g.keeps.added.room i) 16777216;
-    records = min (g.keeps.records.room i) 65536;
-    places = min (h i) 4095;
+    added = min (g.keeps.added.room i) MOST_BYTES;
+    records = min (g.keeps.records.room i) MOST_RECORDS;
+    places = min (h i) MOST_PLACES;
     mark = s.mark;
   }
 
@@ -115,7 +116,7 @@ module _ {V R : Type 0} {kind : _} (s : Parts V R kind) (firm : Firm s) (store :
 
 -- a document of this text is not too long, and there is a place for it
 pub record Fits (b : Brought) (s : State) (text : List ℕ) : Type 0 where
-  pub short : length text ≤ most
+  pub short : length text ≤ MOST_TEXT
   pub free : numbers_spent b s ≡ false
 
 -- all of it, for a draft that stays
@@ -159,7 +160,7 @@ module _ (b : Brought) (t : Told) (s : State) where
       let q = or_parts (ltb y x) (ltb (length b.build) y) p.0 in
       record { short = omega (arith, ltb-false _ _ p.1.0, length-between b.build x y (ltb-false _ _ q.1)); free = p.1.1.1.0 }
 
-  pub cut_fits : (d x y : ℕ) → length (text_at s d) ≤ most → reason b t s (Cut d x y) ≡ None → Fits b s (between x y (text_at s d))
+  pub cut_fits : (d x y : ℕ) → length (text_at s d) ≤ MOST_TEXT → reason b t s (Cut d x y) ≡ None → Fits b s (between x y (text_at s d))
   cut_fits d x y short h =
       let p = first_none (reasons b t s (Cut d x y)) h in
       let q = or_parts (ltb y x) (ltb (length (text_at s d)) y) p.1.0 in

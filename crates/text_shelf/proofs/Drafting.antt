@@ -2,6 +2,7 @@
 use Rattle.std.proofs.Common.{◌≡◌, ℕ, ◌+◌, ◌<◌, ◌≤◌, max, true, false, ◌||◌, ltb, leb, List, [], ◌∷◌, ◌++◌, length, get_or, is_some, Some, None, Option, Ok, sym, refl, ap, ◌∙◌, subst, append-nil, arith, length-append, Bor}
 use Rattle.std.proofs.lemmas.Bool.{ltb-false, or_parts, lt-leb}
 use Rattle.std.specs.Option.{option_map}
+use Rattle.refusal.specs.declared.limits.TheConstants.{MOST_BROUGHT, MOST_DRAFTS, MOST_PLACES, MOST_TEXT}
 use Rattle.monoid.specs.Monoid.{Model}
 use Rattle.rope.specs.Arena.{rooted, height_of}
 use Rattle.rope.specs.Memory.{arena_of}
@@ -10,7 +11,6 @@ use Rattle.rope.specs.declared.store.Store.{Store}
 use Rattle.rope.proofs.Keeping.{fills_none, takes_none}
 use Rattle.rope_cut.specs.Parts.{text_in, height_in}
 use Rattle.rope_keep.specs.Kept.{Grows, add_need}
-use Rattle.shelf_view.specs.Documents.{most}
 use Rattle.refusal.specs.Refusals.{first}
 use Rattle.refusal.specs.declared.Refusal.TheVariants.{DraftOpen}
 use Rattle.shelf_view.specs.State.{draft_text}
@@ -25,7 +25,6 @@ use Rattle.text_shelf.specs.declared.call.Call.TheVariants.{Open, Add, Seal}
 use Rattle.text_shelf.specs.declared.call.Answer.TheVariants.{Made, Opened, Done}
 use Rattle.rope.specs.declared.lent.Lent.{Lent}
 use Rattle.text_shelf.specs.declared.shelf.Shelf.{Shelf}
-use Rattle.text_shelf.specs.declared.shelf.TheConstants.{MOST_PLACES}
 use Rattle.text_shelf.proofs.Staying.{fine_root, all_fine_stays, texts_stay, heights_stay}
 use Rattle.text_shelf.proofs.Appending.{Firm, firm_of, count_texts, takes_grows, same_room, firm_after, strings_after, changed_after}
 
@@ -59,10 +58,10 @@ module _ {V R : Type 0} {kind : _} (m : Model V R) (s : Shelf V R kind) (d : Dra
   text_after : text_in store root ≡ draft_text (strings (parts s)) ++ text.now
   text_after = is ∙ ap (λ t. t ++ text.now) (sym drafts.text_is)
 
-  short_after : length (text_in store root) ≤ most
+  short_after : length (text_in store root) ≤ MOST_TEXT
   short_after =
       let pass = first_none (reasons (brought (parts s)) (told (parts s)) (strings (parts s)) (Add d text)) none in
-      let both = or_parts (ltb 4096 (length text.now)) (ltb most (length (draft_text (strings (parts s))) + length text.now)) pass.1.0 in
+      let both = or_parts (ltb MOST_BROUGHT (length text.now)) (ltb MOST_TEXT (length (draft_text (strings (parts s))) + length text.now)) pass.1.0 in
       omega (arith, ap length text_after, length-append (draft_text (strings (parts s))) text.now, ltb-false _ _ both.1)
 
   pub firm_longer : Firm longer_draft
@@ -119,6 +118,6 @@ module _ {V R : Type 0} {kind : _} (m : Model V R) (s : Shelf V R kind) (d : Dra
       rw none (ap (λ j. Ok (Made j)) (n ∙ sym (count_texts (parts s))), ap strings same ∙ ap (λ z. with_draft z None) after, (subst (λ q. Changed (parts s) q [] 0) (sym same) changed, ap (λ q. (told q).draft) same))
 
 -- no draft is open, and one more can be counted
-pub none_open : (f : Root → List ℕ) (d : Option Root) (o : ℕ) → false ≡ is_some d → o < 4294967295 → first ((is_some (option_map f d) || leb 4294967295 o, DraftOpen) ∷ []) ≡ None
+pub none_open : (f : Root → List ℕ) (d : Option Root) (o : ℕ) → false ≡ is_some d → o < MOST_DRAFTS → first ((is_some (option_map f d) || leb MOST_DRAFTS o, DraftOpen) ∷ []) ≡ None
 none_open f None o e h = first_not DraftOpen [] (lt-leb _ _ h)
 none_open f (Some p) o e h = absurd (let z : ◌≡◌ {A = ℕ} 0 1 = cc in omega arith)

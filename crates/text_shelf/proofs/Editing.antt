@@ -1,12 +1,12 @@
 -- Cut and splice, from what the trees tell.
 use Rattle.std.proofs.Common.{◌≡◌, ℕ, ◌+◌, ◌-◌, ◌≤◌, max, [], ◌∷◌, ◌++◌, length, get_or, take, drop, None, sym, ap, ◌∙◌, subst, arith}
 use Rattle.std.specs.List.{between}
+use Rattle.refusal.specs.declared.limits.TheConstants.{MOST_PLACES, MOST_TEXT}
 use Rattle.monoid.specs.Monoid.{Model}
 use Rattle.rope.specs.Memory.{arena_of, Takes}
 use Rattle.rope.specs.Arena.{Root}
 use Rattle.rope.specs.declared.store.Store.{Store}
-use Rattle.rope_cut.specs.Parts.{Makes, edit_need, text_in, height_in, higher}
-use Rattle.shelf_view.specs.Documents.{most}
+use Rattle.rope_cut.specs.Parts.{Makes, edit_need, text_in, height_in, higher, spliced}
 use Rattle.shelf_view.specs.State.{Shelved, text_at}
 use Rattle.std.proofs.lemmas.List.Edits.{length-between}
 use Rattle.rope_read.specs.Texts.{bytes_of, whole_bytes, of_bounds, IsSlice}
@@ -18,12 +18,11 @@ use Rattle.shelf_view.specs.Places.{Lies, IsDocument}
 use Rattle.shelf_view.proofs.Placing.{short_of, document_text}
 use Rattle.text_shelf.specs.Shelves.{Parts, parts, shelved, brought, told, strings}
 use Rattle.text_shelf.specs.Spans.{Spans}
-use Rattle.text_shelf.specs.Calls.{reason, need, spliced}
+use Rattle.text_shelf.specs.Calls.{reason, need}
 use Rattle.text_shelf.specs.declared.call.Call.TheVariants.{Cut, Splice}
 use Rattle.rope.specs.Held.{Gains}
 use Rattle.rope.specs.declared.lent.Lent.{Lent}
 use Rattle.text_shelf.specs.declared.shelf.Shelf.{Shelf}
-use Rattle.text_shelf.specs.declared.shelf.TheConstants.{MOST_PLACES}
 use Rattle.text_shelf.proofs.Appending.{Appends, append, takes_grows, cut_fits, splice_fits}
 
 -- the part x to y of document d, as its door and its slice tell it
@@ -54,7 +53,7 @@ module _ {V R : Type 0} {kind : _} (m : Model V R) (s : Shelf V R kind) (store :
         → Appends (parts s) after (between x y (text_at (strings (parts s)) d)) [] (need (told (parts s)) (Cut d x y))
     cut_appends none made =
         let takes = subst (λ n. Takes s.store store (edit_need n)) (sym span.lies.high) made.takes in
-        let short : length (text_at (strings (parts s)) d) ≤ most = omega (arith, ap length span.lies.text_is, short_of (arena_of s.store) p.root span.lies.fine_root) in
+        let short : length (text_at (strings (parts s)) d) ≤ MOST_TEXT = omega (arith, ap length span.lies.text_is, short_of (arena_of s.store) p.root span.lies.fine_root) in
         append s store [] (need (told (parts s)) (Cut d x y)) (takes_grows s.store store _ takes) places root (between x y (text_at (strings (parts s)) d)) pushes made.root
         (made.text_is ∙ (λ i. between (span.from_is i) (span.to_is i) (sym span.lies.text_is i))) (cut_fits (brought (parts s)) (told (parts s)) (strings (parts s)) d x y short none)
 

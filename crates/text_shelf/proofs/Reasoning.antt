@@ -1,8 +1,8 @@
 -- Why an edit is refused, from what the view tells.
 use Rattle.std.proofs.Common.{◌≡◌, ℕ, ◌+◌, ◌-◌, ◌<◌, ◌≤◌, max, false, ltb, List, [], ◌∷◌, ◌++◌, length, get_or, Some, None, Option, sym, ap, ◌∙◌, arith, length-append, length-drop, length-take}
 use Rattle.std.proofs.lemmas.Bool.{lt-ltb, le-ltb}
-use Rattle.rope_cut.specs.Parts.{edit_need}
-use Rattle.shelf_view.specs.Documents.{most}
+use Rattle.rope_cut.specs.Parts.{edit_need, spliced}
+use Rattle.refusal.specs.declared.limits.TheConstants.{MOST_TEXT}
 use Rattle.refusal.specs.Refusals.{Reasons, first}
 use Rattle.rope_read.specs.Texts.{bad_part}
 use Rattle.shelf_view.specs.State.{Shelved, state_of, unknown, text_at}
@@ -11,7 +11,7 @@ use Rattle.refusal.specs.declared.Refusal.{Refusal}
 use Rattle.refusal.specs.declared.Refusal.TheVariants.{NoDocument, BadPart, TooLong}
 use Rattle.refusal.proofs.Firsts.{first_is, first_not, first_stays, first_then, first_or, passed}
 use Rattle.text_shelf.specs.Shelves.{Brought, Told}
-use Rattle.text_shelf.specs.Calls.{reason, memory, spliced}
+use Rattle.text_shelf.specs.Calls.{reason, memory}
 use Rattle.text_shelf.specs.declared.call.Call.TheVariants.{Cut, Splice}
 
 module _ {R : Type 0} (b : Brought) (t : Told) (v s : Shelved R) (same : v ≡ s) where
@@ -39,7 +39,7 @@ module _ {R : Type 0} (b : Brought) (t : Told) (v s : Shelved R) (same : v ≡ s
       parted = (bad_part (text_at (state_of s) d) x y, BadPart) ∷ []
 
       long : Reasons
-      long = (ltb most (length (spliced (text_at (state_of s) d) x y (text_at (state_of s) e))), TooLong) ∷ []
+      long = (ltb MOST_TEXT (length (spliced (text_at (state_of s) d) x y (text_at (state_of s) e))), TooLong) ∷ []
 
       last : Reasons
       last = memory (edit_need (max (get_or t.heights d 0) (get_or t.heights e 0))) b t (state_of s)
@@ -70,15 +70,15 @@ module _ {R : Type 0} (b : Brought) (t : Told) (v s : Shelved R) (same : v ≡ s
             past_part : reason b t (state_of s) (Splice d x y e) ≡ first (long ++ last)
             past_part = past_two ∙ first_then parted (long ++ last) (part_alone None part)
 
-            pub splice_long : most < n → reason b t (state_of s) (Splice d x y e) ≡ Some TooLong
+            pub splice_long : MOST_TEXT < n → reason b t (state_of s) (Splice d x y e) ≡ Some TooLong
             unfolding long
-            splice_long h = past_part ∙ first_is TooLong last (ap (ltb most) (sym is) ∙ lt-ltb _ _ h)
+            splice_long h = past_part ∙ first_is TooLong last (ap (ltb MOST_TEXT) (sym is) ∙ lt-ltb _ _ h)
 
-            pub splice_decided : n ≤ most → (h : ℕ) (w : Option Refusal) → h ≡ max (get_or t.heights d 0) (get_or t.heights e 0)
+            pub splice_decided : n ≤ MOST_TEXT → (h : ℕ) (w : Option Refusal) → h ≡ max (get_or t.heights d 0) (get_or t.heights e 0)
                 → first (memory (edit_need h) b t (state_of s)) ≡ w → reason b t (state_of s) (Splice d x y e) ≡ w
             unfolding long last
             splice_decided short h w high decided =
-                past_part ∙ first_not TooLong last (ap (ltb most) (sym is) ∙ le-ltb _ _ short)
+                past_part ∙ first_not TooLong last (ap (ltb MOST_TEXT) (sym is) ∙ le-ltb _ _ short)
                 ∙ ap (λ k. first (memory (edit_need k) b t (state_of s))) (sym high) ∙ decided
 
 -- the length of a spliced text

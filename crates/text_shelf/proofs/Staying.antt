@@ -2,22 +2,23 @@
 use Rattle.std.proofs.Common.{◌≡◌, ◌≤◌, true, leb, List, [], ◌∷◌, ◌++◌, map, length, Some, None, Option, sym, refl, ap, ◌∙◌}
 use Rattle.std.specs.Option.{option_map}
 use Rattle.std.proofs.lemmas.Bool.{and_parts, and_from, le-leb}
+use Rattle.refusal.specs.declared.limits.TheConstants.{MOST_TEXT}
 use Rattle.rope.specs.Arena.{rooted, text_of, height_of}
 use Rattle.rope.specs.Memory.{arena_of, Keeps}
 use Rattle.rope.specs.Arena.{Root}
 use Rattle.rope.specs.declared.store.Store.{Store}
 use Rattle.rope.proofs.Keeping.{used_length}
 use Rattle.rope_cut.proofs.Roots.{Stays, root_stays}
-use Rattle.shelf_view.specs.Documents.{fine, all_fine, root_in, most}
+use Rattle.shelf_view.specs.Documents.{fine, all_fine, root_in}
 
 -- a root of a store that is one of its used records
-pub fine_root : {V R : Type 0} {kind : _} (s : Store V R kind) → (p : Root) → rooted s.records.used p ≡ true → length (text_of (arena_of s) p) ≤ most → fine (arena_of s) p ≡ true
+pub fine_root : {V R : Type 0} {kind : _} (s : Store V R kind) → (p : Root) → rooted s.records.used p ≡ true → length (text_of (arena_of s) p) ≤ MOST_TEXT → fine (arena_of s) p ≡ true
 fine_root s p r h =
-    and_from (rooted (length (arena_of s).records) p) (leb (length (text_of (arena_of s) p)) most) (ap (λ n. rooted n p) (used_length s) ∙ r) (le-leb _ _ h)
+    and_from (rooted (length (arena_of s).records) p) (leb (length (text_of (arena_of s) p)) MOST_TEXT) (ap (λ n. rooted n p) (used_length s) ∙ r) (le-leb _ _ h)
 
 pub root_of : {V R : Type 0} {kind : _} (s : Store V R kind) → (p : Root) → fine (arena_of s) p ≡ true → rooted s.records.used p ≡ true
 root_of s p f =
-    ap (λ n. rooted n p) (sym (used_length s)) ∙ (and_parts (rooted (length (arena_of s).records) p) (leb (length (text_of (arena_of s) p)) most) f).0
+    ap (λ n. rooted n p) (sym (used_length s)) ∙ (and_parts (rooted (length (arena_of s).records) p) (leb (length (text_of (arena_of s) p)) MOST_TEXT) f).0
 
 module _ {V R : Type 0} {kind : _} (s t : Store V R kind) (k : Keeps s t) where
   pub stays : (p : Root) → fine (arena_of s) p ≡ true → Stays s t p
@@ -27,7 +28,7 @@ module _ {V R : Type 0} {kind : _} (s t : Store V R kind) (k : Keeps s t) where
   fine_stays p f =
       let h = stays p f in
       and_from _ _ (ap (λ n. rooted n p) (used_length t) ∙ h.root)
-      (ap (λ z. leb (length z) most) h.text_is ∙ (and_parts (rooted (length (arena_of s).records) p) (leb (length (text_of (arena_of s) p)) most) f).1)
+      (ap (λ z. leb (length z) MOST_TEXT) h.text_is ∙ (and_parts (rooted (length (arena_of s).records) p) (leb (length (text_of (arena_of s) p)) MOST_TEXT) f).1)
 
   pub all_fine_stays : (ps : List Root) → all_fine (arena_of s) ps ≡ true → all_fine (arena_of t) ps ≡ true
   all_fine_stays [] f = refl

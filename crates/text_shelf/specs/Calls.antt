@@ -1,10 +1,10 @@
 -- The calls that change a shelf: what each makes of the list of strings, what it needs, what becomes of the draft's height,
 -- and why it is refused.
-use Rattle.std.specs.Prelude.{◌≡◌, ℕ, ◌+◌, ◌-◌, ◌≤◌, max, Bool, ◌||◌, List, [], ◌∷◌, ◌++◌, length, take, drop, is_some, Some, None, Option, nat_le, nat_lt, slice_index}
+use Rattle.std.specs.Prelude.{◌≡◌, ℕ, ◌+◌, ◌-◌, ◌≤◌, max, Bool, ◌||◌, List, [], ◌∷◌, ◌++◌, length, is_some, Some, None, Option, nat_le, nat_lt, slice_index}
 use Rattle.std.specs.List.{between}
-use Rattle.rope_cut.specs.Parts.{edit_need}
-use Rattle.rope_keep.specs.Kept.{need_of_text, add_need}
-use Rattle.shelf_view.specs.Documents.{most}
+use Rattle.rope_cut.specs.Parts.{edit_need, spliced}
+use Rattle.rope_keep.specs.Kept.{text_need, add_need}
+use Rattle.refusal.specs.declared.limits.TheConstants.{MOST_BROUGHT, MOST_DRAFTS, MOST_TEXT}
 use Rattle.refusal.specs.Refusals.{Reasons}
 use Rattle.rope_read.specs.Texts.{bad_part}
 use Rattle.shelf_view.specs.State.{State, unknown, text_at, strange, draft_text}
@@ -25,10 +25,6 @@ appended s text n = record { texts = s.texts ++ (text ∷ []); draft = s.draft; 
 
 abbrev pub with_draft : State → Option (List ℕ) → State
 with_draft s d = record { texts = s.texts; draft = d; opened = s.opened; added = s.added }
-
--- d with its part a to b replaced by the whole of e
-abbrev pub spliced : List ℕ → ℕ → ℕ → List ℕ → List ℕ
-spliced d a b e = take a d ++ (e ++ drop b d)
 
 -- what an accepted call makes of the list of strings
 abbrev pub accepted : List ℕ → Call → State → State
@@ -55,11 +51,11 @@ answer mark s (GiveUp d) = Done
 
 -- NEEDS
 
--- in records: 2 × ⌈n / 64⌉ for a new text of n bytes, 32 × (h + 1) for an edit of texts at most h high, and both for
+-- in records: 2 × ⌈n / 64⌉ for a new text of n bytes, 32 × (h + 1) for an edit of texts at MOST_TEXT h high, and both for
 -- n bytes behind a draft that is h high
 abbrev pub need : Told → Call → ℕ
-need t (Put text) = need_of_text (length text.now)
-need t (Take a b) = need_of_text (b - a)
+need t (Put text) = text_need (length text.now)
+need t (Take a b) = text_need (b - a)
 need t (Cut d a b) = edit_need (slice_index t.heights d)
 need t (Splice d a b e) = edit_need (max (slice_index t.heights d) (slice_index t.heights e))
 need t Open = 0
@@ -83,8 +79,8 @@ brings (GiveUp d) = []
 -- HEIGHTS
 
 -- how high the open draft is told before and after a call: a call that is about no draft leaves that; a draft that was
--- just opened is not high, and where one has ended there is none. Add joins a text of at most 4,096 bytes, which is at
--- most 6 high, and two texts joined are as high as the higher of them or one higher.
+-- just opened is not high, and where one has ended there is none. Add joins a text of at MOST_TEXT 4,096 bytes, which is at
+-- MOST_TEXT 6 high, and two texts joined are as high as the higher of them or one higher.
 abbrev pub DraftHeight : Call → ℕ → ℕ → Type 0
 DraftHeight (Put text) h k = k ≡ h
 DraftHeight (Take a b) h k = k ≡ h
@@ -129,19 +125,19 @@ memory n b t s = records n b t s ++ place b t s
 
 -- where n bytes are to be added behind a draft of len bytes that is high high
 abbrev pub longer : ℕ → ℕ → ℕ → Because
-longer n len high b t s = (nat_lt 4096 n || nat_lt most (len + n), TooLong) ∷ (bytes n b t s ++ records (add_need high n) b t s)
+longer n len high b t s = (nat_lt MOST_BROUGHT n || nat_lt MOST_TEXT (len + n), TooLong) ∷ (bytes n b t s ++ records (add_need high n) b t s)
 
 -- the reasons for which a call may be refused, in the order in which they are tested
 abbrev pub reasons : Brought → Told → State → Call → Reasons
-reasons b t s (Put text) = (nat_lt 4096 (length text.now), TooLong) ∷ (bytes (length text.now) b t s ++ memory (need t (Put text)) b t s)
-reasons b t s (Take x y) = (bad_part b.build x y, BadPart) ∷ (nat_lt most (y - x), TooLong) ∷ memory (need t (Take x y)) b t s
+reasons b t s (Put text) = (nat_lt MOST_BROUGHT (length text.now), TooLong) ∷ (bytes (length text.now) b t s ++ memory (need t (Put text)) b t s)
+reasons b t s (Take x y) = (bad_part b.build x y, BadPart) ∷ (nat_lt MOST_TEXT (y - x), TooLong) ∷ memory (need t (Take x y)) b t s
 reasons b t s (Cut d x y) = (unknown s d, NoDocument) ∷ (bad_part (text_at s d) x y, BadPart) ∷ memory (need t (Cut d x y)) b t s
 reasons b t s (Splice d x y e) =
     (unknown s d || unknown s e, NoDocument)
     ∷ (bad_part (text_at s d) x y, BadPart)
-    ∷ (nat_lt most (length (spliced (text_at s d) x y (text_at s e))), TooLong)
+    ∷ (nat_lt MOST_TEXT (length (spliced (text_at s d) x y (text_at s e))), TooLong)
     ∷ memory (need t (Splice d x y e)) b t s
-reasons b t s Open = (is_some s.draft || nat_le 4294967295 s.opened, DraftOpen) ∷ []
+reasons b t s Open = (is_some s.draft || nat_le MOST_DRAFTS s.opened, DraftOpen) ∷ []
 reasons b t s (Add d text) = (strange s b.mark d, StrangeDraft) ∷ longer (length text.now) (length (draft_text s)) t.draft b t s
 reasons b t s (Seal d) = (strange s b.mark d, StrangeDraft) ∷ place b t s
 reasons b t s (GiveUp d) = (strange s b.mark d, StrangeDraft) ∷ []

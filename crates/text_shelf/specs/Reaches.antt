@@ -1,6 +1,7 @@
 -- Shelves that lists of calls have reached, from a fresh one on.
 use Rattle.std.specs.Prelude.{◌≡◌, ℕ, min, List, [], ◌∷◌, ◌++◌, length, take, drop, Ok, Err, Option, Result}
 use Rattle.std.specs.Option.{option_map}
+use Rattle.refusal.specs.declared.limits.TheConstants.{MOST_BYTES, MOST_PLACES, MOST_RECORDS}
 use Rattle.rope.specs.Arena.{Root}
 use Rattle.rope.specs.Lents.{Fills}
 use Rattle.rope.specs.declared.record.Record.{Record}
@@ -18,10 +19,10 @@ use Rattle.text_shelf.specs.declared.shelf.Shelf.{Shelf}
 -- the memory that is used of what was brought
 abbrev pub used_of : {R : Type 0} → List ℕ → List ℕ → List (Record R) → List Root → ℕ → Brought
 used_of build added records places mark = record {
-  build = take 16777216 build;
-  added = min (length added) 16777216;
-  records = min (length records) 65536;
-  places = min (length places) 4095;
+  build = take MOST_BYTES build;
+  added = min (length added) MOST_BYTES;
+  records = min (length records) MOST_RECORDS;
+  places = min (length places) MOST_PLACES;
   mark = mark;
 }
 

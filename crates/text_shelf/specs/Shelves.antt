@@ -1,5 +1,6 @@
 -- What a shelf stands for, and the memory that it was brought.
 use Rattle.std.specs.Prelude.{◌≡◌, ℕ, min, List, length, take, None, Option}
+use Rattle.refusal.specs.declared.limits.TheConstants.{MOST_BYTES, MOST_PLACES, MOST_RECORDS}
 use Rattle.monoid.specs.declared.Monoid.{Ghosts}
 use Rattle.rope.specs.Memory.{arena_of}
 use Rattle.rope.specs.declared.record.Record.{Record}
@@ -9,7 +10,6 @@ use Rattle.shelf_view.specs.State.{State, Shelved, state_of, heights_of, height_
 use Rattle.rope.specs.Held.{held}
 use Rattle.rope.specs.declared.lent.Lent.{Lent}
 use Rattle.text_shelf.specs.declared.shelf.Shelf.{Shelf}
-use Rattle.text_shelf.specs.declared.shelf.TheConstants.{MOST_PLACES}
 
 -- a shelf without the facts that always hold of it
 pub record Parts (V R : Type 0) (kind : Ghosts V R) : Type 0 where
@@ -36,9 +36,9 @@ pub record Brought : Type 0 where
 abbrev pub brought : {V R : Type 0} {kind : _} → Parts V R kind → Brought
 brought s = record {
   build = s.store.build.now;
-  added = min (length s.store.added.memory.now) 16777216;
-  records = min (length s.store.records.memory.now) 65536;
-  places = min (length s.places.memory.now) 4095;
+  added = min (length s.store.added.memory.now) MOST_BYTES;
+  records = min (length s.store.records.memory.now) MOST_RECORDS;
+  places = min (length s.places.memory.now) MOST_PLACES;
   mark = s.mark;
 }
 
@@ -57,7 +57,7 @@ strings s = state_of (shelved s)
 
 -- a fresh shelf holds the empty text alone, and all memory is as it was brought
 pub record Fresh {V R : Type 0} {kind : _} (s : Parts V R kind) (build added : List ℕ) (records : List (Record R)) (places : List Root) (mark : ℕ) : Type 0 where
-  pub build_text : s.store.build.now ≡ take 16777216 build
+  pub build_text : s.store.build.now ≡ take MOST_BYTES build
   pub added_memory : s.store.added.memory.now ≡ added
   pub records_memory : s.store.records.memory.now ≡ records
   pub places_memory : s.places.memory.now ≡ places

@@ -5,6 +5,7 @@ ghost use Rattle.rope.specs.Memory.{arena_of};
 ghost use Rattle.shelf_view.specs.Documents.{fine, all_fine, root_in};
 
 use monoid::Monoid;
+use refusal::limits::MOST_PLACES;
 use rope::lent::Lent;
 use rope::record::Root;
 use rope::store::Store;
@@ -14,9 +15,6 @@ mod base;
 mod drafts;
 mod edits;
 mod reasons;
-
-/// At most so many places are used, however many are lent.
-const MOST_PLACES: usize = 4095;
 
 /// A shelf over lent memory: its documents, and its open draft.
 #[derive(Drop)]

@@ -1,17 +1,19 @@
 ghost use Rattle.std.specs.Prelude.{◌≡◌, ◌-◌, ◌<◌, min, length, take};
+ghost use Rattle.refusal.specs.declared.limits.TheConstants.{MOST_BYTES, MOST_RECORDS};
 ghost use Rattle.rope.specs.Arena.{Reads};
 ghost use Rattle.rope.specs.Memory.{arena_of, seen};
 ghost use Rattle.rope.specs.Steps.{Fine, Pushed, shown};
 
-use super::{MOST_BYTES, Store};
+use super::Store;
 use crate::lent::Lent;
 use crate::record::Record;
-use crate::view::View;
+use crate::view::RopeView;
 use monoid::Monoid;
+use refusal::limits::MOST_BYTES;
 
 /// The part of a build text that is used.
 fn capped(build: &[u8]) -> &[u8]
-    ensures { result.now ≡ take 16777216 build.now }
+    ensures { result.now ≡ take MOST_BYTES build.now }
 {
     &build[..MOST_BYTES.min(build.len())]
 }
@@ -25,7 +27,7 @@ impl<'b, 'a, M: Monoid> Store<'b, 'a, M> {
         records: &'a mut [Record<M::Row>],
     ) -> Store<'b, 'a, M>
         ensures used { (result.records.used ≡ 0) × (result.added.used ≡ 0) }
-        ensures build_text { result.build.now ≡ take 16777216 build.now }
+        ensures build_text { result.build.now ≡ take MOST_BYTES build.now }
         ensures memory { (result.added.memory.now ≡ added.old) × (result.records.memory.now ≡ records.old) }
     {
         Store {
@@ -36,10 +38,10 @@ impl<'b, 'a, M: Monoid> Store<'b, 'a, M> {
     }
 
     /// What is used, for reading.
-    pub fn view(&self) -> View<'_, M>
+    pub fn view(&self) -> RopeView<'_, M>
         ensures { seen result ≡ arena_of self.now }
     {
-        View::new(self.build, self.added.as_slice(), self.records.as_slice())
+        RopeView::new(self.build, self.added.as_slice(), self.records.as_slice())
     }
 
     /// How many bytes the build text has.
@@ -51,14 +53,14 @@ impl<'b, 'a, M: Monoid> Store<'b, 'a, M> {
 
     /// How many records more there is room for.
     pub fn free_records(&self) -> usize
-        ensures { result ≡ min (length self.now.records.memory.now) 65536 - self.now.records.used }
+        ensures { result ≡ min (length self.now.records.memory.now) MOST_RECORDS - self.now.records.used }
     {
         self.records.room()
     }
 
     /// How many bytes more of added text there is room for.
     pub fn free_bytes(&self) -> usize
-        ensures { result ≡ min (length self.now.added.memory.now) 16777216 - self.now.added.used }
+        ensures { result ≡ min (length self.now.added.memory.now) MOST_BYTES - self.now.added.used }
     {
         self.added.room()
     }

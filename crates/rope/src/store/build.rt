@@ -10,8 +10,8 @@ const LEAF: u32 = 64;
 impl<'b, 'a, M: Monoid> Store<'b, 'a, M> {
     /// A tree of a piece, in as few leaves as there can be.
     pub fn build(&mut self, piece: Piece) -> u32
-        requires { Buildable self.old piece.source piece.start piece.len }
-        ensures { Built self.old self.new result piece.source piece.start piece.len }
+        requires { Buildable self.old piece.origin piece.start piece.len }
+        ensures { Built self.old self.new result piece.origin piece.start piece.len }
     {
         if piece.len <= LEAF {
             return self.push_leaf(piece);
@@ -19,7 +19,7 @@ impl<'b, 'a, M: Monoid> Store<'b, 'a, M> {
         let half = (piece.len + (LEAF - 1)) / LEAF / 2 * LEAF;
         let left = self.build(Piece { len: half, ..piece });
         let right = self.build(Piece {
-            source: piece.source,
+            origin: piece.origin,
             start: piece.start + half,
             len: piece.len - half,
         });

@@ -11,13 +11,13 @@ use monoid::fold::fold;
 impl<'b, 'a, M: Monoid> Store<'b, 'a, M> {
     /// A leaf of a piece.
     pub fn push_leaf(&mut self, piece: Piece) -> u32
-        requires { Leafs self.old piece.source piece.start piece.len }
-        ensures { Pushed self.old self.new result (leaf (part (arena_of self.old) piece.source piece.start piece.len)) }
+        requires { Leafs self.old piece.origin piece.start piece.len }
+        ensures { Pushed self.old self.new result (leaf (part (arena_of self.old) piece.origin piece.start piece.len)) }
     {
         let value: M = fold(self.view().bytes(piece));
         self.push(Record {
             shape: Shape::Leaf {
-                source: piece.source,
+                origin: piece.origin,
                 start: piece.start,
             },
             length: piece.len,

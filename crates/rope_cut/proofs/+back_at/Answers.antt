@@ -1,6 +1,6 @@
 use Rattle.std.proofs.Common.{drop, sym, ap, ◌∙◌, arith}
 use Rattle.rope.specs.Tree.{Tree, text}
-use Rattle.rope.specs.Arena.{source_text}
+use Rattle.rope.specs.Arena.{origin_text}
 use Rattle.rope.specs.Memory.{arena_of}
 use Rattle.rope.proofs.Readings.{splits_of, splits_size, leaf_of}
 use Rattle.rope_cut.proofs.Cutting.{right_partable, back_right, back_joinable, back_joined, part_leaf, back_part}
@@ -19,7 +19,7 @@ join-requires g t c =
 pub returns-in-Leaf : goal.returns-in-Leaf
 returns-in-Leaf g t c =
     let n = c.record-top.result.length in
-    let xs = source_text (arena_of c.args.store.now) c.in-Leaf.source in
+    let xs = origin_text (arena_of c.args.store.now) c.in-Leaf.origin in
     let is = (leaf_of c.record-top.ensures c.in-Leaf.is).1 in
     part_leaf (back_part xs c.in-Leaf.start n c.args.a (omega (arith, c.requires.within, c.record-top.ensures.long)) ∙ ap (λ (x : Tree). drop c.args.a (text x)) (sym is)) c.push_leaf.ensures
 

@@ -1,6 +1,6 @@
 use Rattle.std.proofs.Common.{take, sym, ap, ◌∙◌, arith}
 use Rattle.rope.specs.Tree.{Tree, text}
-use Rattle.rope.specs.Arena.{source_text}
+use Rattle.rope.specs.Arena.{origin_text}
 use Rattle.rope.specs.Memory.{arena_of, tree_of}
 use Rattle.rope.proofs.Readings.{splits_of, splits_size, leaf_of}
 use Rattle.rope_cut.proofs.Cutting.{right_partable, front_left, front_joinable, front_joined, whole, part_leaf, front_whole, front_part}
@@ -23,7 +23,7 @@ join-requires g t c =
 pub returns-in-Leaf : goal.returns-in-Leaf
 returns-in-Leaf g t c =
     let n = c.record-top.result.length in
-    let xs = source_text (arena_of c.args.store.now) c.in-Leaf.source in
+    let xs = origin_text (arena_of c.args.store.now) c.in-Leaf.origin in
     let is = (leaf_of c.record-top.ensures c.in-Leaf.is).1 in
     part_leaf (front_part xs c.in-Leaf.start n c.args.b (omega (arith, c.requires.within.1, c.record-top.ensures.long)) ∙ ap (λ (x : Tree). take c.args.b (text x)) (sym is)) c.push_leaf.ensures
 

@@ -1,7 +1,7 @@
 use Rattle.std.proofs.Common.{◌≡◌, length, sym, refl, ◌∙◌, arith}
 use Rattle.std.proofs.lemmas.Bool.Decides.{nat_tests}
-use Rattle.rope.specs.declared.record.Source.TheVariants.{Added}
-use Rattle.rope_keep.specs.Kept.{need_of_text}
+use Rattle.rope.specs.declared.record.Origin.TheVariants.{Added}
+use Rattle.rope_keep.specs.Kept.{text_need}
 use Rattle.rope_keep.proofs.Keepings.{stands_empty, grows_none, stands_built, kept_part, kept_grows}
 use Rattle.rope_keep.proofs.keep.Goals as goal
 
@@ -10,7 +10,7 @@ returns-then-is_empty g c =
     let s = c.args.store.now in
     let bs = c.args.text.now in
     let none : length bs ≡ 0 = grind (arith, nat_tests, sym c.is_empty.ensures ∙ c.if-is_empty.true) in
-    record { grows = grows_none s bs (need_of_text (length bs)) none; stands = stands_empty s bs none }
+    record { grows = grows_none s bs (text_need (length bs)) none; stands = stands_empty s bs none }
 
 pub returns : goal.returns
 returns g c =

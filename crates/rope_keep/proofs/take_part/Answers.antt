@@ -1,8 +1,8 @@
 use Rattle.std.proofs.Common.{take, drop, refl, arith}
-use Rattle.rope.specs.declared.record.Source.TheVariants.{Build}
+use Rattle.rope.specs.declared.record.Origin.TheVariants.{Build}
 use Rattle.rope.proofs.Keeping.{takes_within}
 use Rattle.rope.proofs.Pushes.{length_part}
-use Rattle.rope_keep.specs.Kept.{need_of_text}
+use Rattle.rope_keep.specs.Kept.{text_need}
 use Rattle.rope_keep.proofs.Keepings.{stands_built}
 use Rattle.rope_keep.proofs.take_part.Goals as goal
 
@@ -11,6 +11,6 @@ returns g c =
     let xs = c.args.store.now.build.now in
     let n = c.args.count in
     record {
-      takes = takes_within (need_of_text n) (omega arith) c.build.ensures.takes;
+      takes = takes_within (text_need n) (omega arith) c.build.ensures.takes;
       stands = stands_built Build c.args.start n (take n (drop c.args.start xs)) c.build.ensures refl (length_part xs c.args.start n c.requires.within);
     }

@@ -6,7 +6,7 @@ ghost use Rattle.shelf_view.specs.State.{shown};
 use super::View;
 use monoid::Monoid;
 use rope::record::Root;
-use rope::view::View as RopeView;
+use rope::view::RopeView;
 
 impl<'v, M: Monoid> View<'v, M> {
     /// A view of these trees, for the shelf that they lie on. Five arguments and no struct: the fields of the view itself.

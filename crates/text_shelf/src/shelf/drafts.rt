@@ -6,6 +6,7 @@ use super::Shelf;
 use crate::draft::Draft;
 use monoid::Monoid;
 use refusal::Refusal;
+use refusal::limits::MOST_DRAFTS;
 use rope_keep::lengthen;
 use shelf_view::draft_id::DraftId;
 
@@ -14,7 +15,7 @@ impl<'b, 'a, M: Monoid> Shelf<'b, 'a, M> {
     pub fn open(&mut self) -> Result<Draft, Refusal>
         ensures { Steps self.old Open (started result) self.new }
     {
-        if self.draft.is_some() || self.opened == u32::MAX {
+        if self.draft.is_some() || self.opened == MOST_DRAFTS {
             return Err(Refusal::DraftOpen);
         }
         self.draft = Some(None);

@@ -1,8 +1,9 @@
 ghost use Rattle.std.specs.Prelude.{◌≡◌, ◌≤◌, ⊤};
+ghost use Rattle.refusal.specs.declared.limits.TheConstants.{MOST_TEXT};
 ghost use Rattle.refusal.specs.Refusals.{Answers};
 ghost use Rattle.shelf_view.specs.Places.{Lies, Drafts};
-ghost use Rattle.rope_cut.specs.Parts.{edit_need as need_of_edit};
-ghost use Rattle.rope_keep.specs.Kept.{need_of_text};
+ghost use Rattle.rope_cut.specs.Parts;
+ghost use Rattle.rope_keep.specs.Kept;
 ghost use Rattle.text_shelf.specs.Shelves.{parts, shelved};
 ghost use Rattle.text_shelf.specs.Spans.{Spans};
 ghost use Rattle.text_shelf.specs.Calls.{bytes, records, place, memory, longer};
@@ -12,27 +13,22 @@ ghost use Rattle.text_shelf.specs.declared.call.Call.TheVariants.{Put, Take, Cut
 use super::Shelf;
 use monoid::Monoid;
 use refusal::Refusal;
+use refusal::limits::{MOST_BROUGHT, MOST_TEXT};
 use rope::record::Root;
 use rope_read::text::Span;
 use shelf_view::draft_id::DraftId;
 
-/// The longest text that a call may bring.
-const MOST_BROUGHT: usize = 4096;
-
-/// The longest document or draft.
-const MOST_TEXT: usize = 1048576;
-
 /// The records that a new text of `n` bytes may take.
 fn text_need(n: usize) -> usize
-    requires { n ≤ 1048576 }
-    ensures { result ≡ need_of_text n }
+    requires { n ≤ MOST_TEXT }
+    ensures { result ≡ Kept.text_need n }
 {
     2 * n.div_ceil(64)
 }
 
 /// The records that an edit of texts at most `high` may take.
 fn edit_need(high: u8) -> usize
-    ensures { result ≡ need_of_edit high }
+    ensures { result ≡ Parts.edit_need high }
 {
     32 * (high as usize + 1)
 }
@@ -78,7 +74,7 @@ impl<'b, 'a, M: Monoid> Shelf<'b, 'a, M> {
 
     /// Refuses where there is no memory for an edit of texts at most `high`.
     fn memory_for_edit(&self, high: u8) -> Result<(), Refusal>
-        ensures { Answers (why (memory (need_of_edit high)) self.now) (λ x. ⊤) result }
+        ensures { Answers (why (memory (Parts.edit_need high)) self.now) (λ x. ⊤) result }
     {
         self.memory_for(edit_need(high))
     }
@@ -149,7 +145,7 @@ impl<'b, 'a, M: Monoid> Shelf<'b, 'a, M> {
 
     /// Refuses where a draft of `len` bytes, `high` high, is not lengthened by `n` bytes.
     fn memory_for_more(&self, n: usize, len: usize, high: u8) -> Result<(), Refusal>
-        requires { len ≤ 1048576 }
+        requires { len ≤ MOST_TEXT }
         ensures { Answers (why (longer n len high) self.now) (λ x. ⊤) result }
     {
         if n > MOST_BROUGHT || len + n > MOST_TEXT {

@@ -9,7 +9,7 @@ pub push-requires : goal.push-requires
 push-requires g c =
     let m = g.M.Monoid.model in
     let s = c.args.self.now in
-    let read : c.bytes.result.now ≡ part (arena_of s) c.args.piece.source c.args.piece.start c.args.piece.len =
-    c.bytes.ensures ∙ ap (λ (a : Arena g.row.M-Row.Denot). part a c.args.piece.source c.args.piece.start c.args.piece.len) c.view.ensures in
-    leaf_fine m s c.args.piece.source c.args.piece.start c.args.piece.len c.requires c.to_row.result
+    let read : c.bytes.result.now ≡ part (arena_of s) c.args.piece.origin c.args.piece.start c.args.piece.len =
+    c.bytes.ensures ∙ ap (λ (a : Arena g.row.M-Row.Denot). part a c.args.piece.origin c.args.piece.start c.args.piece.len) c.view.ensures in
+    leaf_fine m s c.args.piece.origin c.args.piece.start c.args.piece.len c.requires c.to_row.result
     (c.to_row.ensures ∙ ap m.row (c.fold-value.ensures.value ∙ ap (fold_of m) read)) (ap all_bytes (sym read) ∙ c.fold-value.ensures.bytes)

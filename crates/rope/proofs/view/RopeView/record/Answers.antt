@@ -1,7 +1,7 @@
 use Rattle.std.proofs.Common.{get_or, ap}
 use Rattle.rope.specs.Memory.{seen}
 use Rattle.rope.proofs.Readings.{reads}
-use Rattle.rope.proofs.view.View.record.Goals as goal
+use Rattle.rope.proofs.view.RopeView.record.Goals as goal
 
 pub returns : goal.returns
 returns g c =
