@@ -54,7 +54,7 @@ fn so_many_are_run(rt: HostRuntime) {
     end(&rt, shelf, draft);
 }
 
-/// How many calls were run on a shelf, or the refusal's number, and the token that is had then.
+/// How many calls were run on a shelf, or the refusal's number, and the token that is held then.
 fn resumed<'b, 'a>(
     shelf: &mut PlainShelf<'b, 'a>,
     draft: Option<Draft>,
@@ -80,36 +80,46 @@ fn refuse<'b, 'a>(
     back
 }
 
-/// A draft of another shelf, which this hands back as it came.
+/// The draft of this name of another shelf, opened there after earlier calls, which this shelf hands back as it came.
 fn refuse_of<'b, 'a>(
     rt: &impl Abort,
     shelf: &mut PlainShelf<'b, 'a>,
-    mark: u32,
+    id: DraftId,
     earlier: &[Call<'static>],
 ) {
-    let mut other: PlainShelf = Shelf::new(b"", &mut [], &mut [], &mut [], mark);
+    let mut other: PlainShelf = Shelf::new(b"", &mut [], &mut [], &mut [], id.mark);
     let (_, none) = resumed(&mut other, None, earlier);
     end(rt, &mut other, none);
     let (_, theirs) = resumed(&mut other, None, &[Call::Open]);
+    assert_eq!(rt; id_of(&theirs), Some(id));
     let theirs = refuse(rt, shelf, theirs);
     end(rt, &mut other, theirs);
 }
 
 const OWN: DraftId = DraftId { mark: 7, count: 1 };
 
-// Calls go on with the open draft's token alone, and with none where no draft is open. Of another shelf's drafts one has
-// another mark, and one another count.
+const OTHER_MARK: DraftId = DraftId { mark: 8, count: 1 };
+
+const OTHER_COUNT: DraftId = DraftId { mark: 7, count: 2 };
+
+// Calls go on with the open draft's token alone, and with none where no draft is open. Even a draft of the same name is
+// refused where none is open.
 #[test]
 fn the_open_draft_goes_on(rt: HostRuntime) {
     let mut added = [0; 1];
     let mut records = [Record::blank(LINE); 34];
     let mut places = [None; 2];
     let mut shelf: PlainShelf = Shelf::new(b"", &mut added, &mut records, &mut places, 7);
-    refuse_of(&rt, &mut shelf, 7, &[]);
+    refuse_of(&rt, &mut shelf, OWN, &[]);
     let (run, held) = resumed(&mut shelf, None, &[Call::Open]);
     assert_eq!(rt; run, Ok(1));
-    refuse_of(&rt, &mut shelf, 8, &[]);
-    refuse_of(&rt, &mut shelf, 7, &[Call::Open, Call::GiveUp(OWN)]);
+    refuse_of(&rt, &mut shelf, OTHER_MARK, &[]);
+    refuse_of(
+        &rt,
+        &mut shelf,
+        OTHER_COUNT,
+        &[Call::Open, Call::GiveUp(OWN)],
+    );
     let none = refuse(&rt, &mut shelf, None);
     end(&rt, &mut shelf, none);
     let add = Call::Add {
