@@ -15,11 +15,12 @@ empty = hwv 0 1 1
 abbrev pub of_byte : ℕ → KarpRabinRow
 of_byte k = hwv ((k + 1) % prime) 16807 1407677000
 
--- (h, w, v) joined with (i, x, y) is (h × x + i, w × x, v × y) modulo p
+-- two texts in a row: h moves up by the length of the text behind it, h × x + i, and the powers multiply, w × x and
+-- v × y, modulo p
 abbrev pub joined : KarpRabinRow → KarpRabinRow → KarpRabinRow
 joined x y = hwv ((x.h * y.w + y.h) % prime) (x.w * y.w % prime) (x.v * y.v % prime)
 
--- the inverse of (h, w, v) is (-h × v, v, w) modulo p
+-- what takes a text away again: (-h × v, v, w), modulo p
 abbrev pub inverse : KarpRabinRow → KarpRabinRow
 inverse x = hwv (minus x.h * x.v % prime) x.v x.w
 

@@ -21,12 +21,12 @@ pub record Lawful {V R : Type 0} (m : Model V R) : Type 0 where
   pub exact : (r : R) (x : V) → m.check_row r ≡ Some x → m.row x ≡ r
   pub rows : (x y : V) → m.joined_rows (m.row x) (m.row y) ≡ m.row (m.joined x y)
 
--- A value joined with its inverse, on either side, is the empty value.
+-- An inverse takes its value away, from either side: nothing is left but the empty value.
 pub record Inverse {V R : Type 0} (m : Model V R) (inverse : V → V) : Type 0 where
   pub after : (x : V) → m.joined x (inverse x) ≡ m.empty
   pub before : (x : V) → m.joined (inverse x) x ≡ m.empty
 
--- A value joined, from left to right, with the value of each byte.
+-- A value that grows byte by byte: x becomes, with "ab" behind it, (x and a) and b.
 abbrev pub fold_from : {V R : Type 0} → Model V R → V → List ℕ → V
 fold_from m x [] = x
 fold_from m x (k ∷ ks) = fold_from m (m.joined x (m.of_byte k)) ks

@@ -152,7 +152,7 @@ impl<'v, M: Monoid> Text<'v, M> {
         }
     }
 
-    /// Writes it at the start of `out`, and answers its length. What lies behind keeps its bytes. Refused with SMALL BUFFER,
+    /// Writes it at the start of `out` and leaves what lies behind; answers its length. Refused with SMALL BUFFER,
     /// and `out` as it was, exactly where `out` is shorter. Takes time in its length and the height of its tree.
     pub fn copy(self, out: &mut [u8]) -> Result<usize, Refusal>
         ensures { Writes (of_room (length (bytes_of self.entry)) (length out.old)) (bytes_of self.entry) out.old out.new result }

@@ -41,8 +41,8 @@ DocumentFolds m d r s = Answers (of_document s d) (λ v. v ≡ fold_of m (text_a
 abbrev pub PartFolds : {V R : Type 0} → Model V R → ℕ → ℕ → ℕ → Result V Refusal → State → Type 0
 PartFolds m d a b r s = Answers (of_part s d a b) (λ v. v ≡ fold_of m (between a b (text_at s d))) r
 
--- document d of one and document e of the other marked shelf: their fingerprints are told, and where their texts agree
--- but for one stretch of at most 45 bits in each, the fingerprints told are equal exactly when the texts are
+-- document d of one marked shelf and document e of the other: their fingerprints are told, and with no more than a slip
+-- between the texts, the same fingerprint means the same text, and the other way round
 abbrev pub SlipsTold : ℕ → ℕ → Result (Sl2 × Sl2) Refusal → State → State → Type 0
 SlipsTold d e r s t =
     Answers (first ((unknown s d || unknown t e, NoDocument) ∷ []))

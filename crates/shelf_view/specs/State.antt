@@ -8,7 +8,8 @@ use Rattle.shelf_view.specs.Documents.{root_in}
 use Rattle.shelf_view.specs.declared.draft_id.DraftId.{DraftId}
 use Rattle.shelf_view.specs.declared.view.View.{View}
 
--- the texts of the documents, the open draft's text or none, the drafts opened so far, and the added bytes used so far
+-- what a shelf means to its callers: a text for each number from 0 on; what the draft holds while one is open; and two
+-- counts that never fall, of all drafts ever opened and of the added bytes that are taken
 pub record State : Type 0 where
   pub texts : List (List ℕ)
   pub draft : Option (List ℕ)

@@ -7,7 +7,7 @@ use zemor::matrix::Sl2;
 use zemor::window::ops::read_back;
 
 /// Looks for the window of at most five bytes that, between what has the fingerprints `front` and `back`, gives the
-/// fingerprint that `digits` write. Writes it at the start of `out`, and answers its length. What lies behind keeps its bytes.
+/// fingerprint that `digits` write. Writes it at the start of `out` and leaves what lies behind; answers its length.
 /// Refused with SMALL BUFFER where `out` is shorter than five bytes, then with BAD FINGERPRINT where the digits are not well
 /// formed, then with NO WINDOW exactly where no window gives the fingerprint; `out` is then as it was. Takes constant time.
 pub fn read_between(front: Sl2, digits: &[u8], back: Sl2, out: &mut [u8]) -> Result<usize, Refusal>

@@ -52,7 +52,7 @@ done r = result_map_both (λ u. Done) (λ e. e) r
 abbrev pub started : Result Draft Refusal → Result Answer Refusal
 started r = result_map_both (λ d. Opened d.id) (λ e. e) r
 
--- a refused seal or give up hands the draft back
+-- of a seal or a give-up that is refused, the reason alone; the draft that comes back with it is named below
 abbrev pub sealed : Result ℕ (Refusal × Draft) → Result Answer Refusal
 sealed r = result_map_both Made (λ e. e.0) r
 

@@ -15,7 +15,7 @@ times x y =
     matrix (dot x.a x.b y.a y.c) (dot x.a x.b y.b y.d)
     (dot x.c x.d y.a y.c) (dot x.c x.d y.b y.d)
 
--- the inverse of [a b; c d] is [d -b; -c a]
+-- what undoes a matrix of determinant 1: a and d change places, b and c their signs
 abbrev pub inverse : Entries → Entries
 inverse x = matrix x.d (minus x.b) (minus x.c) x.a
 

@@ -1,11 +1,11 @@
--- Two texts that agree but for one short stretch, and what their fingerprints tell.
+-- Two texts with one slip between them, and what their fingerprints tell.
 use Rattle.std.specs.Prelude.{◌≡◌, ℕ, ◌≤◌, Bool, true, List, ◌++◌, length}
 use Rattle.monoid.specs.Monoid.{fold_of, all_bytes}
 use Rattle.zemor.specs.Bits.{text_bits}
 use Rattle.zemor.specs.Values.{sl2}
 
--- the bits of one text are u, w, v and those of the other u, x, v, with at most 45 bits in w and in x; any of them
--- may be empty
+-- a slip of the hand, such as a digit mistyped: up to it both texts have the bits u, and from it on the bits v; there one
+-- has w and the other x, neither of more than 45 bits. Where w is empty something was only put in, where x is, left out.
 pub record Slip (one other : List ℕ) : Type 0 where
   pub u : List Bool
   pub w : List Bool

@@ -15,7 +15,7 @@ abbrev pub whole : List Bool → Entries
 whole [] = identity
 whole (b ∷ w) = whole_times (bit b) (whole w)
 
--- a product of n bits has no entry above F(n + 1)
+-- how large entries grow: with n bits up to F(n + 1), and no further
 abbrev pub Bounded : Type 0
 Bounded =
     (w : List Bool) → let f = fib (length w + 1) in ((whole w).a ≤ f) × ((whole w).b ≤ f) × ((whole w).c ≤ f) × ((whole w).d ≤ f)

@@ -42,8 +42,8 @@ impl<'v> View<'v, Marked> {
     }
 
     /// Looks for the window of at most five bytes that, in the place of the part `a` to `b` of document `d`, gives the
-    /// text of `d` the fingerprint that 32 digits write. Writes it at the start of `out`, and answers its length. What lies
-    /// behind keeps its bytes. Refused as `part` is, then with SMALL BUFFER where `out` is shorter than five bytes, with BAD
+    /// text of `d` the fingerprint that 32 digits write. Writes it at the start of `out` and leaves what lies behind; answers
+    /// its length. Refused as `part` is, then with SMALL BUFFER where `out` is shorter than five bytes, with BAD
     /// FINGERPRINT where the digits are not well formed, and with NO WINDOW exactly where no window gives the fingerprint; `out`
     /// is then as it was. Takes time in the height of the document.
     pub fn read_back(

@@ -19,8 +19,8 @@ impl<'v, M: Monoid> View<'v, M> {
         Ok(self.part(d, a, b)?.summary())
     }
 
-    /// Writes the part `a` to `b` of document `d` at the start of `out`, and answers its length. What lies behind keeps its
-    /// bytes. Refused as `part` is, and then with SMALL BUFFER, `out` as it was, exactly where `out` is shorter. Takes time in
+    /// Writes the part `a` to `b` of document `d` at the start of `out` and leaves what lies behind; answers its length.
+    /// Refused as `part` is, and then with SMALL BUFFER, `out` as it was, exactly where `out` is shorter. Takes time in
     /// the length of the part and the height of the document.
     pub fn copy(&self, d: u32, a: usize, b: usize, out: &mut [u8]) -> Result<usize, Refusal>
         ensures { Writes (of_copy (strings self.now) d a b (b - a) (length out.old)) (between a b (text_at (strings self.now) d)) out.old out.new result }
