@@ -35,9 +35,8 @@ impl fmt::Debug for Window {
 
 /// Tells what was written in the place of `part` of `text`, from the fingerprint of the changed text alone.
 ///
-/// It is the one window of at most five bytes such that the text before `part`, the window and the text behind `part`
-/// together have this fingerprint. Every other window gives another. The bytes of `part` itself do not matter, and it may
-/// have any length.
+/// Of all windows, up to five bytes long, at most one gives the text this fingerprint when it stands where `part` stood: that
+/// one is told. The bytes of `part` itself do not matter, and it may have any length.
 ///
 /// ```
 /// use vault::{Fingerprint, Refusal, read_back};

@@ -19,14 +19,15 @@ fn change<'w>(window: &'w mut [u8; 5]) -> Result<(Sl2, &'w [u8]), Refusal> {
     let old = shelf.put(b"lease = 3600\n")?;
     let digits = shelf.put(b"86400")?;
     let new = shelf.splice(old, 8, 12, digits)?;
-    let mark = shelf.view().document(new)?.summary().first;
-    let n = shelf.view().read_back(old, 8, 12, &mark.to_hex(), window)?;
-    Ok((mark, &window[..n]))
+    let view = shelf.view();
+    let fingerprint = view.document(new)?.summary().first;
+    let n = view.read_back(old, 8, 12, &fingerprint.to_hex(), window)?;
+    Ok((fingerprint, &window[..n]))
 }
 
 fn main(rt: HostRuntime) -> io::Result<()> {
     match change(&mut [0; 5]) {
-        Ok((mark, written)) => println!(rt; "{mark}: \"{}\" was written", written.escape_ascii()),
+        Ok((told, written)) => println!(rt; "{told}: \"{}\" was written", written.escape_ascii()),
         Err(why) => println!(rt; "refused with {}", why.number()),
     }
 }
