@@ -5,8 +5,8 @@ use crate::{Refusal, buffer, read_back_digits};
 
 /// Zémor's fingerprint of a text: a matrix of four numbers below 2^31 − 1, in sixteen bytes.
 ///
-/// Two texts that agree but for a stretch of at most five bytes in each have the same fingerprint exactly when they are
-/// equal. It guards against slips, not against somebody who looks for two texts with one fingerprint.
+/// Between two texts with no more than a slip, of at most five bytes in each, equal fingerprints mean equal texts, and the
+/// other way round. It guards against slips, not against somebody who looks for two texts with one fingerprint.
 ///
 /// It is printed as 32 lower-case hexadecimal digits, and read from them.
 ///

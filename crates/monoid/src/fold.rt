@@ -1,4 +1,4 @@
-//! The fold of a stretch of bytes, for every monoid.
+//! The fold of a text, for every monoid.
 ghost use Rattle.std.specs.Prelude.{◌≡◌, ℕ, true, List, ◌++◌};
 ghost use Rattle.monoid.specs.Monoid.{fold_of, all_bytes};
 

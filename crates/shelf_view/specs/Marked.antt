@@ -26,7 +26,7 @@ fingerprint text = fold_of sl2 text
 abbrev pub written : Sl2 → List ℕ
 written x = hex (bytes_of (row x))
 
--- what is told of two stretches of n bytes; of at most five bytes, "equal" is said only of equal bytes
+-- what is told of two parts of n bytes; of at most five bytes, "equal" is said only of equal bytes
 abbrev pub Compares : ℕ → List ℕ → List ℕ → Sameness → Type 0
 Compares n s t Different = ¬ (fingerprint s ≡ fingerprint t)
 Compares n s t Equal = (n ≤ 5) × (fingerprint s ≡ fingerprint t) × (s ≡ t)

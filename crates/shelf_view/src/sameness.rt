@@ -1,6 +1,6 @@
-//! What the fingerprints of two stretches tell.
+//! What the fingerprints of two parts tell.
 
-/// How two stretches of n bytes compare.
+/// How two parts of n bytes compare.
 #[derive(Clone, Copy, PartialEq, Eq, Debug)]
 pub enum Sameness {
     /// Their fingerprints differ, so their bytes do.

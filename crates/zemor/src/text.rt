@@ -12,8 +12,8 @@ use monoid::fold::fold;
 
 /// The fingerprint of a text: the product of its bits modulo p, the highest bit of each byte first.
 ///
-/// A text that agrees with this one but for a stretch of at most 45 bits in each has the same fingerprint exactly
-/// where it is the same text.
+/// Slips always show: with no more than a slip between them, of at most 45 bits in each, two texts have the same
+/// fingerprint exactly where they are the same text. Takes time in the length of the text.
 pub fn fingerprint(text: &[u8]) -> Sl2
     ensures value { result ≡ fold_of sl2 text.now }
     ensures bits { row result ≡ product_of (text_bits text.now) }
