@@ -30,7 +30,7 @@ pub trait Monoid: Copy {
     fn join(self, other: Self) -> Self
         ensures { result ≡ model.joined self other };
 
-    /// The value of a text with the bytes of `text` behind it: joined, from left to right, with the value of each.
+    /// The value of a text that the bytes of `text` continue, one after the other. Takes time in their number.
     fn lengthened(self, text: &[u8]) -> Self
         ensures { result ≡ fold_from model self text.now }
     {

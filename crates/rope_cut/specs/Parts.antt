@@ -64,6 +64,6 @@ pub record Spliceable {V R : Type 0} {kind : _} (s : Store V R kind) (p : Root) 
   pub short : length (text_in s p) - (b - a) + length (text_in s q) < 2 ^ 32
   pub free : Free s (edit_need (higher s p q))
 
--- the text d with its part a to b replaced by e
+-- a splice: d up to a, then e, then d from b on
 abbrev pub spliced : List ℕ → ℕ → ℕ → List ℕ → List ℕ
 spliced d a b e = take a d ++ (e ++ drop b d)
