@@ -10,48 +10,41 @@ use rope::record::{Record, Root};
 use rope::store::Store;
 use rope_cut::{cut, splice};
 use rope_keep::{keep, lengthen, take_part};
-use rope_read::text::Text;
+use rope_read::whole::Whole;
 
 /// Whether `text` is the text at `root`.
 fn holds<'b, 'a, M: Monoid>(store: &Store<'b, 'a, M>, root: Root, text: &[u8]) -> bool
     requires { rooted store.now.records.used root ≡ true }
 {
-    let here = Text::new(store.view(), root);
-    here.len() as usize == text.len()
+    let here = Whole::new(store.view(), root).text();
+    here.len() == text.len()
         && text
             .iter()
             .enumerate()
-            .all(|(at, byte)| here.byte(at as u32) == *byte)
+            .all(|(at, byte)| here.byte(at) == Ok(*byte))
 }
 
 /// Copies the text at `root` to the start of `out`, where it fits.
 fn copies<'b, 'a, M: Monoid>(store: &Store<'b, 'a, M>, root: Root, out: &mut [u8]) -> bool
     requires { rooted store.now.records.used root ≡ true }
 {
-    let here = Text::new(store.view(), root);
-    let count = here.len();
-    if count as usize > out.len() {
-        return false;
-    }
-    here.copy_part(0, count, out);
-    true
+    Whole::new(store.view(), root).text().copy(out).is_ok()
 }
 
 /// Whether the part `a` to `b` of the text at `root` has the summary of `text`.
 fn sums_as<'b, 'a>(
     store: &Store<'b, 'a, Pair<LineColumn, KarpRabin>>,
     root: Root,
-    a: u32,
-    b: u32,
+    a: usize,
+    b: usize,
     text: &[u8],
 ) -> bool
     requires { rooted store.now.records.used root ≡ true }
 {
-    let here = Text::new(store.view(), root);
-    if a > b || b > here.len() {
+    let Ok(part) = Whole::new(store.view(), root).text().part(a, b) else {
         return false;
-    }
-    let told = here.fold_part(a, b).to_row();
+    };
+    let told = part.summary().to_row();
     let value: Pair<LineColumn, KarpRabin> = fold(text);
     let row = value.to_row();
     told.first == row.first && told.second.h == row.second.h
