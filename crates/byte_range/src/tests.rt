@@ -1,7 +1,7 @@
 use crate::range::ByteRange;
 use monoid::Monoid;
-use rope::record::{Record, Shape, Origin};
 use refusal::Refusal;
+use rope::record::{Record, Shape, Origin};
 use std::test::Fail;
 use text_shelf::shelf::Shelf;
 
@@ -28,7 +28,7 @@ fn put_and_tell<'b, 'a>(
     text: &[u8],
 ) -> Result<ByteRange, Refusal> {
     let d = shelf.put(text)?;
-    shelf.view().summary(d)
+    Ok(shelf.view().document(d)?.summary())
 }
 
 #[test]
