@@ -1,9 +1,9 @@
 //! Tables of calls, each accepted or refused with a number. A table names drafts by any mark and count, so it is run where
 //! tokens are made: on a fresh shelf by `replay`, and on one that is there by `resume`.
 use monoid::Monoid;
+use refusal::Refusal;
 use rope::record::{Record, Root};
 use shelf_view::draft_id::DraftId;
-use refusal::Refusal;
 use std::process::Abort;
 use text_shelf::call::{Answer, Call};
 use text_shelf::draft::Draft;

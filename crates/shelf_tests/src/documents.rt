@@ -2,9 +2,9 @@
 use crate::memory::LINE;
 use monoid::Monoid;
 use monoid::line_column::LineColumn;
+use refusal::Refusal;
 use rope::record::Record;
 use shelf_view::draft_id::DraftId;
-use refusal::Refusal;
 use std::process::Abort;
 use std::test::Fail;
 use text_shelf::draft::Draft;
@@ -18,15 +18,19 @@ fn holds<'b, 'a, M: Monoid>(shelf: &Shelf<'b, 'a, M>, d: u32, text: &[u8]) -> bo
     if n >= 32 {
         return false;
     }
-    match (shelf.view().len(d), shelf.view().copy(d, 0, n, &mut out)) {
-        (Ok(len), Ok(_)) => len == n && &out[0..n] == text && out[n] == 9,
+    match (
+        shelf.view().document(d),
+        shelf.view().copy(d, 0, n, &mut out),
+    ) {
+        (Ok(whole), Ok(_)) => whole.len() == n && &out[0..n] == text && out[n] == 9,
         _ => false,
     }
 }
 
 // How many bytes the draft has, or the refusal's number.
 fn draft_len<'b, 'a, M: Monoid>(shelf: &Shelf<'b, 'a, M>, id: DraftId) -> Result<usize, u8> {
-    shelf.view().draft_len(id).map_err(Refusal::number)
+    let draft = shelf.view().draft(id).map_err(Refusal::number)?;
+    Ok(draft.len())
 }
 
 // The first document that is not its text.

@@ -1,4 +1,4 @@
-//! The shelf on examples: its refusals at their edges, and its documents, drafts and questions.
+//! The shelf on examples: its refusals at their edges, and its documents, drafts, slices and questions.
 #![tactic(auto)]
 
 #[cfg(test)]
@@ -13,3 +13,5 @@ mod memory;
 mod questions;
 #[cfg(test)]
 mod refusals;
+#[cfg(test)]
+mod slices;

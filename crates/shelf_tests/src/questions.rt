@@ -1,8 +1,10 @@
 //! Questions, on a marked shelf.
 use crate::memory::MARKED;
-use rope::record::Record;
 use refusal::Refusal;
+use rope::record::Record;
+use shelf_view::marked::Marked;
 use shelf_view::sameness::Sameness;
+use shelf_view::view::View;
 use std::test::Fail;
 use text_shelf::named::MarkedShelf;
 use text_shelf::shelf::Shelf;
@@ -16,6 +18,10 @@ enum Ask<'t> {
     Byte(u32, usize),
 }
 
+fn byte_of<'v>(view: View<'v, Marked>, d: u32, i: usize) -> Result<u8, Refusal> {
+    view.document(d)?.text().byte(i)
+}
+
 // The number answered, or the number of the refusal.
 fn asked<'b, 'a, 't>(
     shelf: &MarkedShelf<'b, 'a>,
@@ -26,7 +32,7 @@ fn asked<'b, 'a, 't>(
     let answer = match ask {
         Ask::Back(d, a, b, fingerprint) => view.read_back(d, a, b, fingerprint, out),
         Ask::Copy(d, a, b) => view.copy(d, a, b, out),
-        Ask::Byte(d, i) => view.byte(d, i).map(usize::from),
+        Ask::Byte(d, i) => byte_of(view, d, i).map(usize::from),
     };
     answer.map_err(Refusal::number)
 }

@@ -2,9 +2,9 @@
 use crate::calls::{Row, add, cut, first_wrong, first_wrong_on, splice, take};
 use crate::memory::LINE;
 use monoid::line_column::LineColumn;
+use refusal::Refusal;
 use rope::record::Record;
 use shelf_view::draft_id::DraftId;
-use refusal::Refusal;
 use std::process::Abort;
 use std::test::Fail;
 use text_shelf::call::Call;
