@@ -1,6 +1,6 @@
 //! The questions of a marked shelf alone.
-use shelf_view::marked::Marked;
 use refusal::Refusal;
+use shelf_view::marked::Marked;
 use shelf_view::sameness::Sameness;
 use shelf_view::view::View;
 use std::process::Abort;

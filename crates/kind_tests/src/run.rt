@@ -1,6 +1,7 @@
 //! Making calls by the shelf's methods, with the draft that a test holds.
 use monoid::Monoid;
 use refusal::Refusal;
+use rope_read::whole::Whole;
 use std::process::Abort;
 use text_shelf::draft::Draft;
 use text_shelf::shelf::Shelf;
@@ -79,9 +80,9 @@ fn text_need(n: usize) -> usize {
     n.div_ceil(64).saturating_mul(2)
 }
 
-/// The records that an edit of a text so high may take; of none where there is no such text.
-fn edit_need(high: Result<u8, Refusal>) -> usize {
-    high.map_or(0, |h| 32 * (h as usize + 1))
+/// The records that an edit of a text may take; none where there is no such text.
+fn edit_need<'v, M: Monoid>(text: Result<Whole<'v, M>, Refusal>) -> usize {
+    text.map_or(0, |whole| 32 * (whole.height() as usize + 1))
 }
 
 /// The records that a call may take.
@@ -90,12 +91,12 @@ fn need<'b, 'a, M: Monoid>(shelf: &Shelf<'b, 'a, M>, held: &Option<Draft>, step:
     match (step, held) {
         (Step::Put(text), _) => text_need(text.len()),
         (Step::Take(from, to), _) => text_need(to.saturating_sub(from)),
-        (Step::Cut(d, _, _), _) => edit_need(view.height(d)),
+        (Step::Cut(d, _, _), _) => edit_need(view.document(d)),
         (Step::Splice(d, _, _, other), _) => {
-            edit_need(view.height(d)).max(edit_need(view.height(other)))
+            edit_need(view.document(d)).max(edit_need(view.document(other)))
         }
         (Step::Add(text), Some(draft)) => {
-            text_need(text.len()).saturating_add(edit_need(view.draft_height(draft.id())))
+            text_need(text.len()).saturating_add(edit_need(view.draft(draft.id())))
         }
         _ => 0,
     }

@@ -59,6 +59,9 @@ pub(crate) static LAST: [Row; 8] = [
     (Step::GiveUp, Ok(0)),
 ];
 
+/// The draft's text before its seal.
+pub(crate) static DRAFT: &[Piece] = &[(FIRST, 0, 101), (SECOND, 0, 75)];
+
 /// Each document's text, as pieces of the texts that were brought, one behind the other.
 pub(crate) static TEXTS: [&[Piece]; 12] = [
     &[],
