@@ -9,6 +9,7 @@ use Rattle.std.proofs.lemmas.Fmt.{decimal_is_IsNumeral_wide, decimal_step_wide, 
 use Rattle.std.proofs.lemmas.List.{append_cancel_left, get_or_append_left}
 use Rattle.std.proofs.lemmas.Slice.{first_rest}
 use Rattle.std.proofs.lemmas.Str.Parse.{tells_digits, digit_at, digits_value-take-le}
+use Rattle.netstring.specs.declared.read.TheConstants.{MOST_NUMBER}
 use Rattle.netstring.specs.Netstring.{Run, NoRun, NoDigit, NoNumber}
 
 -- a run of digits before no digit begins with each run of digits at that front
@@ -89,10 +90,10 @@ nil_no : NoDigit []
 nil_no h = omega (arith, h.0)
 
 -- what no run, or a run with more behind it, says of the whole text
-pub number_none : (s : List ℕ) → NoRun s 9999999 → NoNumber s
+pub number_none : (s : List ℕ) → NoRun s MOST_NUMBER → NoNumber s
 number_none s r n k = r n [] k.0 nil_no (k.1 ∙ sym (append-nil (decimal n)))
 
-pub number_more : (s rest : List ℕ) (n : ℕ) → Run s 9999999 n rest → 0 < length rest → NoNumber s
+pub number_more : (s rest : List ℕ) (n : ℕ) → Run s MOST_NUMBER n rest → 0 < length rest → NoNumber s
 number_more s rest n r h m k =
     let o = r.only m [] k.0 nil_no (k.1 ∙ sym (append-nil (decimal m))) in
     omega (arith, ap length o.1)

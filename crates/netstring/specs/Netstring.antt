@@ -2,6 +2,7 @@
 use Rattle.std.specs.Prelude.{◌≡◌, ℕ, ◌≤◌, List, [], ◌∷◌, ◌++◌, length, drop, Ok, Err, decimal, Result, ◌≢◌, slice_index}
 use Rattle.refusal.specs.declared.Refusal.{Refusal}
 use Rattle.std.specs.Int.{IsInRange}
+use Rattle.netstring.specs.declared.read.TheConstants.{MOST_NUMBER}
 
 -- the netstring of a content
 unfoldable pub netstring : List ℕ → List ℕ
@@ -33,7 +34,7 @@ NoRun s limit = (m : ℕ) (z : List ℕ) → m ≤ limit → NoDigit z → s ≢
 
 -- s is the number n, of one to seven digits and written like a length
 abbrev pub Number : List ℕ → ℕ → Type 0
-Number s n = (n ≤ 9999999) × (s ≡ decimal n)
+Number s n = (n ≤ MOST_NUMBER) × (s ≡ decimal n)
 
 -- s is no such number
 abbrev pub NoNumber : List ℕ → Type 0

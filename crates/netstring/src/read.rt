@@ -5,6 +5,9 @@ ghost use Rattle.netstring.specs.Netstring.{NoRun, Run, NoNumber, Number, NoNets
 
 use refusal::Refusal;
 
+/// The greatest number that stands as an argument: seven digits.
+pub const MOST_NUMBER: usize = 9_999_999;
+
 /// What a netstring holds, and the place behind it: a place and no rest, since a script's calls are told by their places.
 #[derive(Clone, Copy)]
 pub struct Netstring<'t> {
@@ -43,7 +46,7 @@ fn run_at(text: &[u8], limit: usize) -> Option<(usize, &[u8])>
 pub fn number(text: &[u8]) -> Option<usize>
     ensures { MatchOption result (NoNumber text.now) (λ n. Number text.now n) }
 {
-    match run_at(text, 9_999_999)? {
+    match run_at(text, MOST_NUMBER)? {
         (n, []) => Some(n),
         _ => None,
     }

@@ -1,6 +1,6 @@
 pub mod Writing
 pub mod Parts
-pub mod Calling
+pub mod Commands
 pub mod Telling
 pub mod Turning
 pub mod Holding

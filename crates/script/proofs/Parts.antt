@@ -1,17 +1,27 @@
 -- Netstrings that are read one behind the other.
-use Rattle.std.proofs.Common.{◌≡◌, ℕ, zero, suc, ◌+◌, ◌-◌, ◌<◌, List, [], ◌∷◌, ◌++◌, map, length, take, drop, decimal, sym, refl, ap, ◌∙◌, append_assoc, append-nil, arith, length-append, take-append-drop}
+use Rattle.std.proofs.Common.{◌≡◌, ℕ, zero, suc, ◌+◌, ◌-◌, ◌<◌, List, [], ◌∷◌, ◌++◌, map, length, take, drop, decimal, Some, Ok, Err, Result, MatchResult, sym, refl, ap, ◌∙◌, subst, append_assoc, append-nil, arith, length-append, take-append-drop}
 use Rattle.std.specs.List.{AllByRecursion}
+use Rattle.std.specs.Result.{result_ok}
 use Rattle.std.proofs.lemmas.Fmt.{decimal_injective}
 use Rattle.std.proofs.lemmas.List.{length-drop, length-take-le, map-append}
 use Rattle.std.proofs.lemmas.Grind.{flat_map-append}
 use Rattle.netstring.specs.Netstring.{netstring, NetstringAt, NoNetstringAt, Number, NoNumber}
+use Rattle.netstring.specs.declared.read.Netstring.{Netstring}
 use Rattle.netstring.proofs.Puts.{long}
-use Rattle.script.specs.Calls.{few_digits, netstrings, places_from}
+use Rattle.refusal.specs.declared.Refusal.{Refusal}
+use Rattle.refusal.specs.declared.Refusal.TheVariants.{BadNetstring}
+use Rattle.script.specs.Commands.{few_digits, netstrings, places_from}
 use Rattle.script.specs.Parsing.{TextAt, NumbersAt, NoNumbersAt}
 
 -- a netstring at a place ends so far behind it
 pub spans : (s c : List ℕ) (i j : ℕ) → NetstringAt s i c j → j ≡ i + length (netstring c)
 spans s c i j r = omega (arith, r.within, ap length r.stands, length-append (netstring c) (drop j s), long c, length-drop i s, length-drop j s)
+
+-- a netstring that is read as an option
+pub read_ok : (s : List ℕ) (i : ℕ) (n : Netstring) (r : Result Netstring Refusal) → Some n ≡ result_ok r → MatchResult r (λ m. NetstringAt s i m.content.now m.next) (λ e. (e ≡ BadNetstring) × NoNetstringAt s i)
+    → NetstringAt s i n.content.now n.next
+read_ok s i n (Ok m) e h = let same : m ≡ n = cc in subst (λ x. NetstringAt s i x.content.now x.next) same h
+read_ok s i n (Err x) e h = cc
 
 -- one content
 pub text_at : (s c : List ℕ) (i j : ℕ) → NetstringAt s i c j → TextAt s i c (j - 1 - length c) j

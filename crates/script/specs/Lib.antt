@@ -1,4 +1,4 @@
 pub mod Words
-pub mod Calls
+pub mod Commands
 pub mod Parsing
 pub mod Answers

@@ -1,10 +1,10 @@
--- Reading the arguments of a call, one behind the other. No promise to a caller rests on this file.
+-- Reading the arguments of a command, one behind the other. No promise to a caller rests on this file.
 use Rattle.std.specs.Prelude.{◌≡◌, ℕ, ◌+◌, List, [], ◌∷◌, ◌++◌, map, length, drop, decimal, Some, None, Option, ◌≢◌}
 use Rattle.std.specs.List.{AllByRecursion}
 use Rattle.netstring.specs.Netstring.{netstring, NetstringAt}
-use Rattle.script.specs.Calls.{few_digits, netstrings, places_from, word, arguments, places, Lawful, content, NoCall}
+use Rattle.script.specs.Commands.{few_digits, netstrings, places_from, word, arguments, places, Lawful, content, NoCommand}
 use Rattle.script.specs.Words.{spelling}
-use Rattle.script.specs.declared.call.Call.{Call}
+use Rattle.script.specs.declared.command.Command.{Command}
 
 -- the content c stands at the place p, in the netstring from i to j
 pub record TextAt (s : List ℕ) (i : ℕ) (c : List ℕ) (p j : ℕ) : Type 0 where
@@ -23,20 +23,20 @@ pub record NumbersAt (s : List ℕ) (i : ℕ) (ns ps : List ℕ) (j : ℕ) : Typ
 abbrev pub NoNumbersAt : List ℕ → ℕ → ℕ → Type 0
 NoNumbersAt s i n = (ms t : List ℕ) → length ms ≡ n → AllByRecursion few_digits ms → drop i s ≢ netstrings (map decimal ms) ++ t
 
--- the word and the arguments of k are written from i to j, and those of no other call
-pub record PartsAt (s : List ℕ) (i : ℕ) (k : Call) (j : ℕ) : Type 0 where
+-- the word and the arguments of k are written from i to j, and those of no other command
+pub record PartsAt (s : List ℕ) (i : ℕ) (k : Command) (j : ℕ) : Type 0 where
   pub lawful : Lawful k
   pub stands : drop i s ≡ content k ++ drop j s
   pub reach : j ≡ i + length (content k)
-  pub ends : (h : Call) (t : List ℕ) → Lawful h → drop i s ≡ content h ++ t → t ≡ drop j s
+  pub ends : (h : Command) (t : List ℕ) → Lawful h → drop i s ≡ content h ++ t → t ≡ drop j s
   pub placed : places k ≡ places_from (i + length (netstring (spelling (word k)))) (arguments k)
 
--- those of no call are
+-- those of no command are
 abbrev pub NoPartsAt : List ℕ → ℕ → Type 0
-NoPartsAt s i = (k : Call) (t : List ℕ) → Lawful k → drop i s ≢ content k ++ t
+NoPartsAt s i = (k : Command) (t : List ℕ) → Lawful k → drop i s ≢ content k ++ t
 
--- the bytes from i to the end are a call
-abbrev pub CallInside : List ℕ → ℕ → Option Call → Type 0
-CallInside s i None = NoCall (drop i s)
-CallInside s i (Some k) =
+-- the bytes from i to the end are a command
+abbrev pub CommandInside : List ℕ → ℕ → Option Command → Type 0
+CommandInside s i None = NoCommand (drop i s)
+CommandInside s i (Some k) =
     Lawful k × (drop i s ≡ content k) × (places k ≡ places_from (i + length (netstring (spelling (word k)))) (arguments k))

@@ -1,7 +1,7 @@
--- The words of calls.
+-- The words of commands.
 use Rattle.std.specs.Prelude.{ℕ, List, codes}
-use Rattle.script.specs.declared.call.Word.{Word}
-use Rattle.script.specs.declared.call.Word.TheVariants.{Put, Cut, Splice, Mark, Text}
+use Rattle.script.specs.declared.command.Word.{Word}
+use Rattle.script.specs.declared.command.Word.TheVariants.{Put, Cut, Splice, Mark, Text}
 
 abbrev pub spelling : Word → List ℕ
 spelling Put = codes "put"

@@ -1,8 +1,8 @@
-//! Scripts for a marked shelf: netstrings that each hold a call.
+//! Scripts for a marked shelf: netstrings that each hold a command.
 #![tactic(auto)]
 
 pub mod answer;
-pub mod call;
+pub mod command;
 pub mod read;
 pub mod run;
 mod writer;

@@ -1,21 +1,21 @@
-//! Reading the call that stands at a place of a script.
+//! Reading the command that stands at a place of a script.
 ghost use Rattle.std.specs.Prelude.{◌≡◌, MatchOption, length, map, ◌∷◌, []};
 ghost use Rattle.netstring.specs.Netstring.{NoNetstringAt};
-ghost use Rattle.script.specs.Calls.{Reads};
-ghost use Rattle.script.specs.Parsing.{TextAt, NumbersAt, NoNumbersAt, PartsAt, NoPartsAt, CallInside};
+ghost use Rattle.script.specs.Commands.{ReadAt};
+ghost use Rattle.script.specs.Parsing.{TextAt, NumbersAt, NoNumbersAt, PartsAt, NoPartsAt, CommandInside};
 
-use crate::call::{Argument, Call, Word};
+use crate::command::{Argument, Command, Word};
 use netstring::read::Netstring;
 use refusal::Refusal;
 
-/// What stands at a place of a script: a call, or why there is none; and the place behind it.
+/// What stands at a place of a script: a command, or why there is none; and the place behind it.
 #[derive(Clone, Copy)]
 pub struct Reading<'s> {
-    pub call: Result<Call<'s>, Refusal>,
+    pub command: Result<Command<'s>, Refusal>,
     pub next: usize,
 }
 
-/// The arguments of a call, read from a place on up to the end of `inside`. That is the front of the script, so that
+/// The arguments of a command, read from a place on up to the end of `inside`. That is the front of the script, so that
 /// places are those of the script.
 #[derive(Drop)]
 struct Arguments<'s> {
@@ -28,7 +28,7 @@ impl<'s> Arguments<'s> {
         ensures same { self.new.inside ≡ self.old.inside }
         ensures value { MatchOption result (NoNetstringAt self.old.inside.now self.old.at) (λ a. TextAt self.old.inside.now self.old.at a.value.now a.at self.new.at) }
     {
-        let Netstring { content, next } = netstring::read::read(self.inside, self.at)?;
+        let Netstring { content, next } = netstring::read::read(self.inside, self.at).ok()?;
         self.at = next;
         Some(Argument {
             value: content,
@@ -58,19 +58,19 @@ impl<'s> Arguments<'s> {
     }
 
     /// A word, and the arguments that go with it.
-    fn call(&mut self) -> Option<Call<'s>>
+    fn command(&mut self) -> Option<Command<'s>>
         ensures same { self.new.inside ≡ self.old.inside }
         ensures value { MatchOption result (NoPartsAt self.old.inside.now self.old.at) (λ k. PartsAt self.old.inside.now self.old.at k self.new.at) }
     {
         match Word::of(self.text()?.value)? {
-            Word::Put => Some(Call::Put { text: self.text()? }),
+            Word::Put => Some(Command::Put { text: self.text()? }),
             Word::Cut => {
                 let [document, from, to] = self.numbers::<3>()?;
-                Some(Call::Cut { document, from, to })
+                Some(Command::Cut { document, from, to })
             }
             Word::Splice => {
                 let [document, from, to, other] = self.numbers::<4>()?;
-                Some(Call::Splice {
+                Some(Command::Splice {
                     document,
                     from,
                     to,
@@ -79,39 +79,40 @@ impl<'s> Arguments<'s> {
             }
             Word::Mark => {
                 let [document] = self.numbers::<1>()?;
-                Some(Call::Mark { document })
+                Some(Command::Mark { document })
             }
             Word::Text => {
                 let [document] = self.numbers::<1>()?;
-                Some(Call::Text { document })
+                Some(Command::Text { document })
             }
         }
     }
 }
 
-/// The call whose word stands at the place `at` of `inside`, and whose arguments go up to its end.
-fn call_inside<'s>(inside: &'s [u8], at: usize) -> Option<Call<'s>>
-    ensures { CallInside inside.now at result }
+/// The command whose word stands at the place `at` of `inside`, and whose arguments go up to its end.
+fn command_inside<'s>(inside: &'s [u8], at: usize) -> Option<Command<'s>>
+    ensures { CommandInside inside.now at result }
 {
     let mut arguments = Arguments { inside, at };
-    let call = arguments.call()?;
-    (arguments.at == inside.len()).then_some(call)
+    let command = arguments.command()?;
+    (arguments.at == inside.len()).then_some(command)
 }
 
-/// The call that stands in `script` at the place `at`.
+/// The command that stands in `script` at the place `at`; or BAD NETSTRING, where no netstring stands there, or BAD CALL, where
+/// it holds no command. Takes constant time: a text is borrowed, and not gone through.
 pub fn read<'s>(script: &'s [u8], at: usize) -> Reading<'s>
-    ensures { Reads script.now at result.call result.next }
+    ensures { ReadAt script.now at result.command result.next }
 {
-    let Some(Netstring { content, next }) = netstring::read::read(script, at) else {
+    let Ok(Netstring { content, next }) = netstring::read::read(script, at) else {
         return Reading {
-            call: Err(Refusal::BadNetstring),
+            command: Err(Refusal::BadNetstring),
             next: script.len(),
         };
     };
     let end = next - 1;
-    let call = call_inside(&script[..end], end - content.len());
+    let command = command_inside(&script[..end], end - content.len());
     Reading {
-        call: call.ok_or(Refusal::BadCall),
+        command: command.ok_or(Refusal::BadCall),
         next,
     }
 }

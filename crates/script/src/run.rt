@@ -1,35 +1,25 @@
 //! Running a script on a marked shelf.
-ghost use Rattle.std.specs.Prelude.{◌≡◌, ◌≢◌, ◌≤◌, ◌<◌, List, ℕ, Result, Some, IfErr, MatchResult, length, decimal};
+ghost use Rattle.std.specs.Prelude.{◌≡◌, ◌≢◌, ◌≤◌, ◌<◌, List, ℕ, Result, IfErr, MatchResult, length};
 ghost use Rattle.std.specs.IoError.{error_kind};
-ghost use Rattle.decimal.specs.Decimal.{Copied};
-ghost use Rattle.netstring.specs.Netstring.{netstring};
+ghost use Rattle.refusal.specs.Writing.{Stands};
 ghost use Rattle.text_shelf.specs.Shelves.{parts, strings};
 ghost use Rattle.refusal.specs.declared.Refusal.{Refusal};
 ghost use Rattle.refusal.specs.declared.Refusal.TheVariants.{SmallBuffer};
-ghost use Rattle.script.specs.Answers.{Turn, Ran, RanInto, RanAll, Says, Wrote, numbered, mark_of, text_of};
+ghost use Rattle.script.specs.declared.answer.TheConstants.{MOST_ANSWER};
+ghost use Rattle.script.specs.Answers.{Turn, Ran, RanInto, RanAll, Says, WritesSaid, number_said, mark_of, text_of};
 
 use crate::answer::{
-    MOST_ANSWER, MOST_TOLD, append, append_document, begin, write_digits, write_number,
-    write_refusal,
+    MOST_ANSWER, MOST_TOLD, append, append_text, begin, write_digits, write_number, write_refusal,
 };
-use crate::call::Call;
+use crate::command::Command;
 use crate::read::{Reading, read};
 use crate::writer::write_whole;
-use monoid::line_column::LineColumn;
-use monoid::pair::Pair;
 use refusal::Refusal;
 use std::io;
 use std::io::{ErrorKind, Write};
-use text_shelf::shelf::Shelf;
-use zemor::matrix::Sl2;
+use text_shelf::named::MarkedShelf;
 
-/// What a marked shelf keeps of each text: its fingerprint, and its lines and columns.
-pub type Marked = Pair<Sl2, LineColumn>;
-
-/// A shelf that keeps fingerprints.
-pub type MarkedShelf<'b, 'a> = Shelf<'b, 'a, Marked>;
-
-/// How long an answer is, and the place behind the call.
+/// How long an answer is, and the place behind the command.
 #[derive(Clone, Copy)]
 pub struct Answered {
     pub len: usize,
@@ -38,53 +28,53 @@ pub struct Answered {
 
 /// Tells the number of a document that was made, if one was.
 fn tell_number(made: Result<u32, Refusal>, out: &mut [u8]) -> Result<usize, Refusal>
-    requires { 4102 ≤ length out.old }
-    ensures { Wrote (numbered made) out.old result out.new }
+    requires { MOST_ANSWER ≤ length out.old }
+    ensures { WritesSaid (number_said made) out.old result out.new }
 {
     Ok(write_number(made?, out))
 }
 
 /// Tells the fingerprint of document `d`.
 fn tell_mark<'b, 'a>(shelf: &MarkedShelf<'b, 'a>, d: u32, out: &mut [u8]) -> Result<usize, Refusal>
-    requires { 4102 ≤ length out.old }
-    ensures { Wrote (mark_of (strings (parts shelf.now)) d) out.old result out.new }
+    requires { MOST_ANSWER ≤ length out.old }
+    ensures { WritesSaid (mark_of (strings (parts shelf.now)) d) out.old result out.new }
 {
-    let summary = shelf.view().summary(d)?;
+    let summary = shelf.view().document(d)?.summary();
     Ok(write_digits(&summary.first.to_hex(), out))
 }
 
 /// Tells the text of document `d`.
 #[tactic(auto, using(crate::proofs::Writing::short))]
 fn tell_text<'b, 'a>(shelf: &MarkedShelf<'b, 'a>, d: u32, out: &mut [u8]) -> Result<usize, Refusal>
-    requires { 4102 ≤ length out.old }
-    ensures { Wrote (text_of (strings (parts shelf.now)) d) out.old result out.new }
+    requires { MOST_ANSWER ≤ length out.old }
+    ensures { WritesSaid (text_of (strings (parts shelf.now)) d) out.old result out.new }
 {
-    let view = shelf.view();
-    let len = view.len(d)?;
+    let document = shelf.view().document(d)?;
+    let len = document.len();
     if len > MOST_TOLD {
         return Err(Refusal::SmallBuffer);
     }
     let at = begin(len, out);
-    let at = append_document(&view, d, len, at, out);
+    let at = append_text(document.text(), at, out);
     Ok(append(b",", at, out))
 }
 
-/// Runs what was read: a call, or why there is none.
+/// Runs what was read: a command, or why there is none.
 fn answer<'b, 'a, 's>(
     shelf: &mut MarkedShelf<'b, 'a>,
-    call: Result<Call<'s>, Refusal>,
+    command: Result<Command<'s>, Refusal>,
     out: &mut [u8],
 ) -> Result<usize, Refusal>
-    requires { 4102 ≤ length out.old }
-    ensures { (said : Result (List ℕ) Refusal) × (Says shelf.old call.entry said shelf.new × Wrote said out.old result out.new) }
+    requires { MOST_ANSWER ≤ length out.old }
+    ensures { (said : Result (List ℕ) Refusal) × (Says shelf.old command.entry said shelf.new × WritesSaid said out.old result out.new) }
 {
-    match call? {
-        Call::Put { text } => tell_number(shelf.put(text.value), out),
-        Call::Cut { document, from, to } => {
+    match command? {
+        Command::Put { text } => tell_number(shelf.put(text.value), out),
+        Command::Cut { document, from, to } => {
             let (from, to) = (from.value as usize, to.value as usize);
             tell_number(shelf.cut(document.value, from, to), out)
         }
-        Call::Splice {
+        Command::Splice {
             document,
             from,
             to,
@@ -93,20 +83,20 @@ fn answer<'b, 'a, 's>(
             let (from, to) = (from.value as usize, to.value as usize);
             tell_number(shelf.splice(document.value, from, to, other.value), out)
         }
-        Call::Mark { document } => tell_mark(shelf, document.value, out),
-        Call::Text { document } => tell_text(shelf, document.value, out),
+        Command::Mark { document } => tell_mark(shelf, document.value, out),
+        Command::Text { document } => tell_text(shelf, document.value, out),
     }
 }
 
-/// Runs the call at the place `at` of a script, and writes its answer.
+/// Runs the command at the place `at` of a script, and writes its answer.
 fn turn<'b, 'a>(
     shelf: &mut MarkedShelf<'b, 'a>,
     script: &[u8],
     at: usize,
     out: &mut [u8],
 ) -> Answered
-    requires { 4102 ≤ length out.old }
-    ensures { (a : List ℕ) × (Turn script.now at shelf.old a result.next shelf.new × Copied a out.old (Some result.len) out.new) }
+    requires { MOST_ANSWER ≤ length out.old }
+    ensures { (a : List ℕ) × (Turn script.now at shelf.old a result.next shelf.new × Stands a out.old result.len out.new) }
 {
     if at >= script.len() {
         return Answered {
@@ -114,8 +104,8 @@ fn turn<'b, 'a>(
             next: script.len(),
         };
     }
-    let Reading { call, next } = read(script, at);
-    let len = match answer(shelf, call, out) {
+    let Reading { command, next } = read(script, at);
+    let len = match answer(shelf, command, out) {
         Ok(len) => len,
         Err(why) => write_refusal(why, at, out),
     };
@@ -124,7 +114,7 @@ fn turn<'b, 'a>(
 
 /// Refuses a buffer that does not hold every answer.
 fn fits(out: &[u8]) -> Result<(), Refusal>
-    ensures { MatchResult result (λ u. 4102 ≤ length out.now) (λ e. (length out.now < 4102) × (e ≡ SmallBuffer)) }
+    ensures { MatchResult result (λ u. MOST_ANSWER ≤ length out.now) (λ e. (length out.now < MOST_ANSWER) × (e ≡ SmallBuffer)) }
 {
     if out.len() < MOST_ANSWER {
         return Err(Refusal::SmallBuffer);
@@ -132,8 +122,10 @@ fn fits(out: &[u8]) -> Result<(), Refusal>
     Ok(())
 }
 
-/// Runs the call at the place `at` of a script, and writes its answer at the start of `out`, which needs
-/// `MOST_ANSWER` bytes. What lies behind the answer stays.
+/// Runs the command at the place `at` of a script, and writes its answer at the start of `out`; what lies behind the answer
+/// stays. Refused with SMALL BUFFER, and nothing changed, exactly where `out` has fewer than `MOST_ANSWER` bytes.
+///
+/// Takes time in the length of a text that is put or told, and in the heights of the documents that a cut or a splice names.
 pub fn run<'b, 'a>(
     shelf: &mut MarkedShelf<'b, 'a>,
     script: &[u8],
@@ -146,9 +138,9 @@ pub fn run<'b, 'a>(
     Ok(turn(shelf, script, at, out))
 }
 
-/// Runs a script call by call from the place `at` on, while `MOST_ANSWER` bytes are left in `out`. Writes the answers at
-/// its start, and answers how many bytes they are, and the place behind the last call that was run; from the script's end or
-/// beyond, 0 and the script's end.
+/// Runs a script command by command from the place `at` on, while `MOST_ANSWER` bytes are left in `out`. Writes the answers at
+/// its start, and answers how many bytes they are, and the place behind the last command that was run; from the script's end or
+/// beyond, 0 and the script's end. Refused as `run` is. Takes the time of its commands.
 pub fn run_into<'b, 'a>(
     shelf: &mut MarkedShelf<'b, 'a>,
     script: &[u8],
@@ -169,9 +161,9 @@ pub fn run_into<'b, 'a>(
     Ok(all)
 }
 
-/// Runs a script call by call from the place `at` on, and writes each answer as it comes. Where a write fails, it stops
-/// with that error: the last call was run, and not all of its answer written. An interrupted write is tried again; a writer
-/// that takes nothing fails with `WriteZero`.
+/// Runs a script command by command from the place `at` on, and writes each answer as it comes. Where a write fails, it stops
+/// with that error: the last command was run, and not all of its answer written. An interrupted write is tried again; a writer
+/// that takes nothing fails with `WriteZero`. Takes the time of its commands, and of the writing of their answers.
 pub fn run_all<'b, 'a, W: Write>(
     shelf: &mut MarkedShelf<'b, 'a>,
     script: &[u8],

@@ -7,8 +7,9 @@ use monoid::Monoid;
 use monoid::line_column::LineColumn;
 use monoid::pair::Pair;
 use rope::record::{Record, Root};
-use script::run::{Marked, MarkedShelf};
+use shelf_view::marked::Marked;
 use std::alloc::{AllocError, Global};
+use text_shelf::named::MarkedShelf;
 use text_shelf::shelf::Shelf;
 use zemor::matrix::Entries;
 
@@ -29,7 +30,7 @@ pub struct Memory {
 }
 
 impl Memory {
-    /// So much memory from the heap.
+    /// So much memory from the heap. Takes time in its size.
     pub fn new(heap: Global, sizes: Sizes) -> Result<Memory, AllocError>
         ensures { IfOk result (Holds sizes) }
     {
@@ -46,7 +47,7 @@ impl Memory {
         })
     }
 
-    /// A fresh shelf over all of it and this build text.
+    /// A fresh shelf over all of it and this build text. Takes constant time.
     pub fn shelf<'m>(&'m mut self, build: &'m [u8]) -> MarkedShelf<'m, 'm>
         ensures { Fresh (parts result) build.now self.old.added.items self.old.records.items self.old.places.items 0 }
     {

@@ -1,5 +1,6 @@
 use Rattle.std.proofs.Common.{◌++◌, ◌-◌, ◌≡◌, ◌≤◌, ◌+◌, length, drop, ap, arith, length-append}
 use Rattle.std.proofs.lemmas.List.{length-take, length-drop}
+use Rattle.script.specs.declared.answer.TheConstants.{MOST_ANSWER}
 use Rattle.script.specs.Answers.Turns.{none}
 use Rattle.script.specs.Answers.TurnsIn.{last}
 use Rattle.script.proofs.Turning.{goes_on, ends_within, all_turns}
@@ -30,12 +31,12 @@ loop-all-preserved c =
     let was = c.args.out.now in
     let held = so_far.1.1 in
     let same : length b ≡ length was = omega (arith, held.0, held.1, ap length held.2, length-append so_far.0 (drop at was), length-drop at was) in
-    let left : length so_far.0 + 4102 ≤ length was = omega (arith, c.if-out-all-ge-MOST_ANSWER.true, held.0, same) in
+    let left : length so_far.0 + MOST_ANSWER ≤ length was = omega (arith, c.if-out-all-ge-MOST_ANSWER.true, held.0, same) in
     let room : at + n ≤ length b = omega (arith, wrote.1, held.1, same, length-take (length b - at) (drop at b), length-drop at b) in
     record {
       so_far = (
         so_far.0 ++ turn.0,
-        (last (all_turns so_far.1.0 c.loop-all-test.true) left turn.1.0, lent so_far.0 was b c.turn-len.new.out turn.0 at n held room wrote.0 wrote.2),
+        (last (all_turns so_far.1.0 c.loop-all-test.true) left turn.1.0, lent so_far.0 was b c.turn-len.new.out turn.0 at n held room wrote),
       );
       within = ends_within c.args.script.now c.loop-all.all.next c.loop-all.shelf turn.0 c.turn-len.result.next c.turn-len.new.shelf turn.1.0;
     }

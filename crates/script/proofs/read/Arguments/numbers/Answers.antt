@@ -1,7 +1,7 @@
 use Rattle.std.proofs.Common.{ℕ, ◌+◌, ◌<◌, List, [], ◌∷◌, map, take, set, length, ap, subst, ◌∙◌, arith, length-set}
 use Rattle.std.proofs.lemmas.List.{take_more_set, take_all, length-map, length-take-le, map-append}
 use Rattle.script.specs.Parsing.{NumbersAt, NoNumbersAt}
-use Rattle.script.specs.declared.call.Argument.{Argument}
+use Rattle.script.specs.declared.command.Argument.{Argument}
 use Rattle.script.proofs.Parts.{more, no_more}
 use Rattle.script.proofs.read.Arguments.numbers.Goals as goal
 

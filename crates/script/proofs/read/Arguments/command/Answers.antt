@@ -1,7 +1,7 @@
 use Rattle.std.proofs.Common.{arith, refl}
-use Rattle.script.specs.declared.call.Word.TheVariants as words
-use Rattle.script.proofs.Calling.{none, some, text}
-use Rattle.script.proofs.read.Arguments.call.Goals as goal
+use Rattle.script.specs.declared.command.Word.TheVariants as words
+use Rattle.script.proofs.Commands.{none, some, text}
+use Rattle.script.proofs.read.Arguments.command.Goals as goal
 
 pub returns-in_err-document-in-Cut-clause-value : goal.returns-in_err-document-in-Cut-clause-value
 returns-in_err-document-in-Cut-clause-value c =

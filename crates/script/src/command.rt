@@ -1,16 +1,16 @@
-//! Calls of a script, as they were read.
+//! Commands of a script, as they were read.
 ghost use Rattle.std.specs.Prelude.{◌≡◌, ◌≢◌, MatchOption};
 ghost use Rattle.script.specs.Words.{spelling};
-ghost use Rattle.script.specs.declared.call.Word.{Word};
+ghost use Rattle.script.specs.declared.command.Word.{Word};
 
-/// An argument of a call, and the place in the script where it stands.
+/// An argument of a command, and the place in the script where it stands.
 #[derive(Clone, Copy)]
 pub struct Argument<T> {
     pub value: T,
     pub at: usize,
 }
 
-/// The word of a call.
+/// The word of a command.
 #[derive(Clone, Copy, PartialEq, Eq)]
 pub enum Word {
     Put,
@@ -21,7 +21,7 @@ pub enum Word {
 }
 
 impl Word {
-    /// The word that is spelled so.
+    /// The word that is spelled so. Takes constant time.
     pub fn of(text: &[u8]) -> Option<Word>
         ensures { MatchOption result ((w : Word) → text.now ≢ spelling w) (λ w. text.now ≡ spelling w) }
     {
@@ -36,9 +36,9 @@ impl Word {
     }
 }
 
-/// A call with its arguments. A text is borrowed from the script.
+/// A command: a call of the shelf, or a question, with its arguments as they stand in the script. A text is borrowed from there.
 #[derive(Clone, Copy)]
-pub enum Call<'s> {
+pub enum Command<'s> {
     Put {
         text: Argument<&'s [u8]>,
     },

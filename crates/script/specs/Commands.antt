@@ -1,16 +1,17 @@
--- The calls of a script, and how they are written.
+-- The commands of a script, and how they are written.
 use Rattle.std.specs.Prelude.{◌≡◌, ℕ, ◌+◌, ◌≤◌, List, [], ◌∷◌, map, length, decimal, Ok, Err, Result, ◌≢◌}
 use Rattle.std.specs.List.{flat_map, AllByRecursion}
 use Rattle.netstring.specs.Netstring.{netstring, NetstringAt, NoNetstringAt}
+use Rattle.netstring.specs.declared.read.TheConstants.{MOST_NUMBER}
 use Rattle.refusal.specs.declared.Refusal.{Refusal}
 use Rattle.refusal.specs.declared.Refusal.TheVariants.{BadNetstring, BadCall}
 use Rattle.script.specs.Words.{spelling}
-use Rattle.script.specs.declared.call.Word.{Word}
-use Rattle.script.specs.declared.call.Word.TheVariants as words
-use Rattle.script.specs.declared.call.Call.{Call}
-use Rattle.script.specs.declared.call.Call.TheVariants.{Put, Cut, Splice, Mark, Text}
+use Rattle.script.specs.declared.command.Word.{Word}
+use Rattle.script.specs.declared.command.Word.TheVariants as words
+use Rattle.script.specs.declared.command.Command.{Command}
+use Rattle.script.specs.declared.command.Command.TheVariants.{Put, Cut, Splice, Mark, Text}
 
-abbrev pub word : Call → Word
+abbrev pub word : Command → Word
 word (Put text) = words.Put
 word (Cut d a b) = words.Cut
 word (Splice d a b e) = words.Splice
@@ -18,7 +19,7 @@ word (Mark d) = words.Mark
 word (Text d) = words.Text
 
 -- its number arguments
-abbrev pub numbers : Call → List ℕ
+abbrev pub numbers : Command → List ℕ
 numbers (Put text) = []
 numbers (Cut d a b) = d.value ∷ a.value ∷ b.value ∷ []
 numbers (Splice d a b e) = d.value ∷ a.value ∷ b.value ∷ e.value ∷ []
@@ -26,7 +27,7 @@ numbers (Mark d) = d.value ∷ []
 numbers (Text d) = d.value ∷ []
 
 -- its arguments, as they are written
-abbrev pub arguments : Call → List (List ℕ)
+abbrev pub arguments : Command → List (List ℕ)
 arguments (Put text) = text.value.now ∷ []
 arguments (Cut d a b) = map decimal (numbers (Cut d a b))
 arguments (Splice d a b e) = map decimal (numbers (Splice d a b e))
@@ -34,7 +35,7 @@ arguments (Mark d) = map decimal (numbers (Mark d))
 arguments (Text d) = map decimal (numbers (Text d))
 
 -- the places of its arguments
-abbrev pub places : Call → List ℕ
+abbrev pub places : Command → List ℕ
 places (Put text) = text.at ∷ []
 places (Cut d a b) = d.at ∷ a.at ∷ b.at ∷ []
 places (Splice d a b e) = d.at ∷ a.at ∷ b.at ∷ e.at ∷ []
@@ -43,9 +44,9 @@ places (Text d) = d.at ∷ []
 
 -- a number argument has one to seven digits
 abbrev pub few_digits : ℕ → Type 0
-few_digits n = n ≤ 9999999
+few_digits n = n ≤ MOST_NUMBER
 
-abbrev pub Lawful : Call → Type 0
+abbrev pub Lawful : Command → Type 0
 Lawful k = AllByRecursion few_digits (numbers k)
 
 -- the netstrings of these contents, one behind the other
@@ -57,28 +58,28 @@ abbrev pub places_from : ℕ → List (List ℕ) → List ℕ
 places_from i [] = []
 places_from i (c ∷ cs) = (i + length (decimal (length c)) + 1) ∷ places_from (i + length (netstring c)) cs
 
--- the content of a call's netstring: a word, then arguments
-abbrev pub content : Call → List ℕ
+-- the content of a command's netstring: a word, then arguments
+abbrev pub content : Command → List ℕ
 content k = netstrings (spelling (word k) ∷ arguments k)
 
--- a call stands in the script s at the place i; behind it is the place j
-pub record CallAt (s : List ℕ) (i : ℕ) (k : Call) (j : ℕ) : Type 0 where
+-- a command stands in the script s at the place i; behind it is the place j
+pub record CommandAt (s : List ℕ) (i : ℕ) (k : Command) (j : ℕ) : Type 0 where
   pub stands : NetstringAt s i (content k) j
   pub lawful : Lawful k
   -- each argument has its own place in the script
   pub placed : places k ≡ places_from (i + length (decimal (length (content k))) + 1 + length (netstring (spelling (word k)))) (arguments k)
 
--- these bytes are no call
-abbrev pub NoCall : List ℕ → Type 0
-NoCall c = (k : Call) → Lawful k → content k ≢ c
+-- these bytes are no command
+abbrev pub NoCommand : List ℕ → Type 0
+NoCommand c = (k : Command) → Lawful k → content k ≢ c
 
--- why no call is read at a place: what stands there is no netstring, and then the place behind it is the script's end;
--- or a netstring stands there, and it holds no call
+-- why no command is read at a place: what stands there is no netstring, and then the place behind it is the script's end;
+-- or a netstring stands there, and it holds no command
 pub data Misread (s : List ℕ) (i : ℕ) : Refusal → ℕ → Type 0 where
   no_netstring : NoNetstringAt s i → Misread s i BadNetstring (length s)
-  no_call : {c : List ℕ} {j : ℕ} → NetstringAt s i c j → NoCall c → Misread s i BadCall j
+  no_command : {c : List ℕ} {j : ℕ} → NetstringAt s i c j → NoCommand c → Misread s i BadCall j
 
 -- what is read at a place, and the place behind it
-abbrev pub Reads : List ℕ → ℕ → Result Call Refusal → ℕ → Type 0
-Reads s i (Ok k) j = CallAt s i k j
-Reads s i (Err e) j = Misread s i e j
+abbrev pub ReadAt : List ℕ → ℕ → Result Command Refusal → ℕ → Type 0
+ReadAt s i (Ok k) j = CommandAt s i k j
+ReadAt s i (Err e) j = Misread s i e j

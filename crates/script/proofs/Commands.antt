@@ -1,4 +1,4 @@
--- Calls that are read: a word, and the arguments behind it.
+-- Commands that are read: a word, and the arguments behind it.
 use Rattle.std.proofs.Common.{◌≡◌, ℕ, zero, suc, ◌+◌, ◌-◌, ◌≤◌, Bool, true, false, cond, eqb, List, [], ◌∷◌, ◌++◌, map, length, get_or, take, drop, decimal, Some, None, Option, sym, refl, ap, ◌∙◌, subst, append_assoc, append-nil, arith, length-append, drop-cons}
 use Rattle.std.specs.Bool.{then_some}
 use Rattle.std.specs.Option.{ok_or}
@@ -9,15 +9,15 @@ use Rattle.netstring.specs.Netstring.{netstring, NetstringAt}
 use Rattle.netstring.proofs.Fronts.{parts}
 use Rattle.netstring.proofs.Puts.{long}
 use Rattle.script.specs.Words.{spelling}
-use Rattle.script.specs.Calls.{word, numbers, arguments, places, netstrings, places_from, content, Reads}
-use Rattle.script.specs.Calls.Misread.{no_call}
-use Rattle.script.specs.Parsing.{TextAt, NumbersAt, NoNumbersAt, PartsAt, NoPartsAt, CallInside}
+use Rattle.script.specs.Commands.{word, numbers, arguments, places, netstrings, places_from, content, ReadAt}
+use Rattle.script.specs.Commands.Misread.{no_command}
+use Rattle.script.specs.Parsing.{TextAt, NumbersAt, NoNumbersAt, PartsAt, NoPartsAt, CommandInside}
 use Rattle.refusal.specs.declared.Refusal.TheVariants.{BadCall}
-use Rattle.script.specs.declared.call.Argument.{Argument}
-use Rattle.script.specs.declared.call.Word.{Word}
-use Rattle.script.specs.declared.call.Word.TheVariants as words
-use Rattle.script.specs.declared.call.Call.{Call}
-use Rattle.script.specs.declared.call.Call.TheVariants.{Put, Cut, Splice, Mark, Text}
+use Rattle.script.specs.declared.command.Argument.{Argument}
+use Rattle.script.specs.declared.command.Word.{Word}
+use Rattle.script.specs.declared.command.Word.TheVariants as words
+use Rattle.script.specs.declared.command.Command.{Command}
+use Rattle.script.specs.declared.command.Command.TheVariants.{Put, Cut, Splice, Mark, Text}
 use Rattle.script.proofs.Parts.{spans}
 
 -- the first letter tells the words apart
@@ -50,14 +50,14 @@ numbered words.Splice = true
 numbered words.Mark = true
 numbered words.Text = true
 
-counted : (h : Call) → length (numbers h) ≡ count (word h)
+counted : (h : Command) → length (numbers h) ≡ count (word h)
 counted (Put t) = refl
 counted (Cut d a b) = refl
 counted (Splice d a b e) = refl
 counted (Mark d) = refl
 counted (Text d) = refl
 
-all_numbers : (h : Call) → numbered (word h) ≡ true → arguments h ≡ map decimal (numbers h)
+all_numbers : (h : Command) → numbered (word h) ≡ true → arguments h ≡ map decimal (numbers h)
 all_numbers (Put t) e = cc
 all_numbers (Cut d a b) e = refl
 all_numbers (Splice d a b x) e = refl
@@ -65,8 +65,8 @@ all_numbers (Mark d) e = refl
 all_numbers (Text d) e = refl
 
 module _ (s c : List ℕ) (i j : ℕ) (w : Word) (r : NetstringAt s i c j) (is : c ≡ spelling w) where
-  -- a call that stands there has that word, and its arguments behind it
-  behind : (h : Call) (t : List ℕ) → drop i s ≡ content h ++ t → (word h ≡ w) × (drop j s ≡ netstrings (arguments h) ++ t)
+  -- a command that stands there has that word, and its arguments behind it
+  behind : (h : Command) (t : List ℕ) → drop i s ≡ content h ++ t → (word h ≡ w) × (drop j s ≡ netstrings (arguments h) ++ t)
   behind h t e =
       let o = r.only (spelling (word h)) (netstrings (arguments h) ++ t) (e ∙ append_assoc (netstring (spelling (word h))) (netstrings (arguments h)) t) in
       (one_word (word h) w (o.0 ∙ is), sym o.1)
@@ -77,20 +77,20 @@ module _ (s c : List ℕ) (i j : ℕ) (w : Word) (r : NetstringAt s i c j) (is :
       no' (numbers h) t (counted h ∙ ap count b.0) l (b.1 ∙ ap (λ z. netstrings z ++ t) (all_numbers h (ap numbered b.0 ∙ y)))
 
   -- behind the word, so far the arguments of k reach
-  reaches : (k : Call) (m : ℕ) → word k ≡ w → m ≡ j + length (netstrings (arguments k)) → m ≡ i + length (content k)
+  reaches : (k : Command) (m : ℕ) → word k ≡ w → m ≡ j + length (netstrings (arguments k)) → m ≡ i + length (content k)
   reaches k m v f =
       let n : length (netstring c) ≡ length (netstring (spelling (word k))) = ap (λ z. length (netstring z)) is ∙ ap (λ z. length (netstring (spelling z))) (sym v) in
       omega (arith, spans s c i j r, length-append (netstring (spelling (word k))) (netstrings (arguments k)))
 
-  stands : (k : Call) (m : ℕ) → word k ≡ w → drop j s ≡ netstrings (arguments k) ++ drop m s → drop i s ≡ content k ++ drop m s
+  stands : (k : Command) (m : ℕ) → word k ≡ w → drop j s ≡ netstrings (arguments k) ++ drop m s → drop i s ≡ content k ++ drop m s
   stands k m v f =
       r.stands ∙ ap (λ z. netstring z ++ drop j s) (is ∙ ap spelling (sym v)) ∙ ap (λ z. netstring (spelling (word k)) ++ z) f
       ∙ sym (append_assoc (netstring (spelling (word k))) (netstrings (arguments k)) (drop m s))
 
-  from : (k : Call) → word k ≡ w → j ≡ i + length (netstring (spelling (word k)))
+  from : (k : Command) → word k ≡ w → j ≡ i + length (netstring (spelling (word k)))
   from k v = spans s c i j r ∙ ap (λ z. i + length (netstring z)) (is ∙ ap spelling (sym v))
 
-  with_numbers : (k : Call) (m : ℕ) → word k ≡ w → numbered w ≡ true → NumbersAt s j (numbers k) (places k) m → PartsAt s i k m
+  with_numbers : (k : Command) (m : ℕ) → word k ≡ w → numbered w ≡ true → NumbersAt s j (numbers k) (places k) m → PartsAt s i k m
   with_numbers k m v y f =
       let a : arguments k ≡ map decimal (numbers k) = all_numbers k (ap numbered v ∙ y) in record {
         lawful = f.few;
@@ -111,7 +111,7 @@ module _ (s c : List ℕ) (i j : ℕ) (w : Word) (r : NetstringAt s i c j) (is :
         placed = f.place ∙ ap (λ z. places_from z (t.value.now ∷ [])) (from (Put t) (sym v));
       }
     where
-      ends_with : (h : Call) (z : List ℕ) → word h ≡ words.Put → drop j s ≡ netstrings (arguments h) ++ z → TextAt s j t.value.now t.at m → z ≡ drop m s
+      ends_with : (h : Command) (z : List ℕ) → word h ≡ words.Put → drop j s ≡ netstrings (arguments h) ++ z → TextAt s j t.value.now t.at m → z ≡ drop m s
       ends_with (Put x) z v e f = (f.stands.only x.value.now z (e ∙ ap (λ y. y ++ z) (append-nil (netstring x.value.now)))).1
       ends_with (Cut d a b) z v e f = cc
       ends_with (Splice d a b x) z v e f = cc
@@ -133,7 +133,7 @@ module _ (a b : Bor (List ℕ)) (same : b ≡ a) (i j : ℕ) (c : List ℕ) (w :
   none v e y no' =
       no_numbers a.now c i j v r (is ∙ ap spelling e) y (subst (λ z. NoNumbersAt z.now j (count v)) same no')
 
-  pub some : (k : Call) (xs : List (Argument ℕ)) (m : ℕ) → w ≡ word k → numbered (word k) ≡ true → length xs ≡ count (word k)
+  pub some : (k : Command) (xs : List (Argument ℕ)) (m : ℕ) → w ≡ word k → numbered (word k) ≡ true → length xs ≡ count (word k)
       → numbers k ≡ map (λ x. x.value) (listed xs 0 (count (word k))) → places k ≡ map (λ x. x.at) (listed xs 0 (count (word k)))
       → NumbersAt b.now j (map (λ x. x.value) xs) (map (λ x. x.at) xs) m → PartsAt a.now i k m
   some k xs m e y len ns ps f =
@@ -145,14 +145,14 @@ module _ (a b : Bor (List ℕ)) (same : b ≡ a) (i j : ℕ) (c : List ℕ) (w :
   pub text : (t : Argument (Bor (List ℕ))) (m : ℕ) → w ≡ words.Put → TextAt b.now j t.value.now t.at m → PartsAt a.now i (Put t) m
   text t m e f = with_text a.now c i j w r is t m e (subst (λ z. TextAt z.now j t.value.now t.at m) same f)
 
-within : (s : List ℕ) (i : ℕ) (k : Call) (m : ℕ) → PartsAt s i k m → m ≤ length s
+within : (s : List ℕ) (i : ℕ) (k : Command) (m : ℕ) → PartsAt s i k m → m ≤ length s
 within s i k m f = omega (arith, f.reach, ap length f.stands, length-append (content k) (drop m s), length-append (netstring (spelling (word k))) (netstrings (arguments k)), long (spelling (word k)), length-drop i s, length-drop m s)
 
--- the arguments end where the text does, or those bytes are no call
-pub ended : (s : List ℕ) (i : ℕ) (k : Call) (m : ℕ) → PartsAt s i k m → CallInside s i (then_some (eqb m (length s)) k)
+-- the arguments end where the text does, or those bytes are no command
+pub ended : (s : List ℕ) (i : ℕ) (k : Command) (m : ℕ) → PartsAt s i k m → CommandInside s i (then_some (eqb m (length s)) k)
 ended s i k m f = by (eqb m (length s)) refl
   where
-    by : (b : Bool) → eqb m (length s) ≡ b → CallInside s i (then_some b k)
+    by : (b : Bool) → eqb m (length s) ≡ b → CommandInside s i (then_some b k)
     by true h =
         let none_left : drop m s ≡ [] = drop_all m s (grind (arith, nat_tests)) in
         (f.lawful, f.stands ∙ ap (λ z. content k ++ z) none_left ∙ append-nil (content k), f.placed)
@@ -171,8 +171,8 @@ inside s c i j r =
     ap (λ q. drop q (take (j - 1) s)) p ∙ ap (λ q. drop (i + (length d + 1)) (take q s)) n ∙ drop-take (i + (length d + 1)) (length c) s ∙ ap (take (length c)) f ∙ take_at c (44 ∷ drop j s) (length c) refl
 
 -- what the content tells of the netstring at a place
-pub read_there : (s c : List ℕ) (i j : ℕ) (r : Option Call) → NetstringAt s i c j → CallInside (take (j - 1) s) (j - 1 - length c) r → Reads s i (ok_or r BadCall) j
-read_there s c i j None r h = no_call r (λ k l e. h k l (e ∙ sym (inside s c i j r)))
+pub read_there : (s c : List ℕ) (i j : ℕ) (r : Option Command) → NetstringAt s i c j → CommandInside (take (j - 1) s) (j - 1 - length c) r → ReadAt s i (ok_or r BadCall) j
+read_there s c i j None r h = no_command r (λ k l e. h k l (e ∙ sym (inside s c i j r)))
 read_there s c i j (Some k) r h =
     let is : c ≡ content k = sym (inside s c i j r) ∙ h.1 in
     let p : j - 1 - length c ≡ i + length (decimal (length (content k))) + 1 = (omega (arith, spans s c i j r, long c) ∙ ap (λ z. i + length (decimal (length z)) + 1) is) in
