@@ -3,17 +3,18 @@ ghost use Rattle.std.specs.Prelude.{◌≢◌, IfErr};
 ghost use Rattle.std.specs.IoError.{error_kind};
 ghost use Rattle.shelf.specs.Serving.{Served};
 
-use script::run::{MarkedShelf, run_all};
+use script::run::run_all;
 use std::alloc::Global;
 use std::io;
 use std::io::{ErrorKind, Read, Write};
+use text_shelf::named::MarkedShelf;
 
 /// So many bytes of a script are read.
 const MOST_SCRIPT: u64 = 16384;
 
-/// Runs the script that `input` gives, its first 16,384 bytes, and writes the answers to `out`. Where it cannot be read, or
-/// there is no memory to hold it, nothing is run; where a write fails, the last call was run, and not all of its answer
-/// written.
+/// Runs the script that `input` gives, its first `MOST_SCRIPT` bytes, and writes the answers to `out`. Where it cannot be read, or
+/// there is no memory to hold it, nothing is run; where a write fails, the last command was run, and not all of its answer
+/// written. Takes the time of its commands, and of the reading and writing.
 pub fn serve<'b, 'a, R: Read + Drop, W: Write>(
     heap: Global,
     input: R,

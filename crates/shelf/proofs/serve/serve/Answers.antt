@@ -3,11 +3,12 @@ use Rattle.std.proofs.lemmas.Result.{err_from_is_err_and}
 use Rattle.std.specs.Option.{option_map}
 use Rattle.script.specs.Answers.{RanAll}
 use Rattle.text_shelf.specs.declared.shelf.Shelf.{Shelf}
+use Rattle.shelf.specs.declared.serve.TheConstants.{MOST_SCRIPT}
 use Rattle.shelf.specs.Serving.{RanFrom, Served}
 use Rattle.shelf.proofs.serve.serve.Goals as goal
 
 -- what a reader gives up to a limit is the front of what it has
-front : (known : Option (List ℕ)) (items : List ℕ) → IfSome (option_map (take 16384) known) (λ xs. items ≡ [] ++ xs) → IfSome known (λ bytes. items ≡ take 16384 bytes)
+front : (known : Option (List ℕ)) (items : List ℕ) → IfSome (option_map (take MOST_SCRIPT) known) (λ xs. items ≡ [] ++ xs) → IfSome known (λ bytes. items ≡ take MOST_SCRIPT bytes)
 front None items h = tt
 front (Some bytes) items h = h
 
