@@ -1,9 +1,9 @@
 //! What crosses the boundary: a refusal's number, or 0 and how far a call came.
 ghost use Rattle.std.specs.Prelude.{◌≡◌};
-ghost use Rattle.vault.specs.Boundary.{told, told_run};
+ghost use Rattle.vault.specs.Boundary.{numbered, run_numbered};
 
-use script::run::Answered;
 use refusal::Refusal;
+use script::run::Answered;
 
 /// How many bytes were written.
 #[repr(C)]
@@ -13,7 +13,7 @@ pub struct VaultAnswer {
     pub len: usize,
 }
 
-/// How many bytes were written, and the place behind the last call of a script.
+/// How many bytes were written, and the place behind the last command of a script.
 #[repr(C)]
 #[derive(Clone, Copy)]
 pub struct VaultRun {
@@ -23,7 +23,7 @@ pub struct VaultRun {
 }
 
 impl From<Result<usize, Refusal>> for VaultAnswer {
-    ghost from_gives = { λ r a. a ≡ told r };
+    ghost from_gives = { λ r a. a ≡ numbered r };
 
     fn from(written: Result<usize, Refusal>) -> VaultAnswer {
         match written {
@@ -37,7 +37,7 @@ impl From<Result<usize, Refusal>> for VaultAnswer {
 }
 
 impl From<Result<Answered, Refusal>> for VaultRun {
-    ghost from_gives = { λ r a. a ≡ told_run r };
+    ghost from_gives = { λ r a. a ≡ run_numbered r };
 
     fn from(run: Result<Answered, Refusal>) -> VaultRun {
         match run {

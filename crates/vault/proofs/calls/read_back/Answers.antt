@@ -2,7 +2,7 @@ use Rattle.std.proofs.Common.{◌≡◌, false, ◌∷◌, [], length, nat_lt, r
 use Rattle.std.proofs.lemmas.Bool.Decides.{nat_tests}
 use Rattle.std.proofs.lemmas.Grind.{common_steps}
 use Rattle.std.proofs.lemmas.List.{take_rest}
-use Rattle.shelf_view.specs.State.{bad_part}
+use Rattle.rope_read.specs.Texts.{bad_part}
 use Rattle.shelf_view.specs.Marked.{fingerprint, in_part, earlier, of_buffer, ReadsBack}
 use Rattle.refusal.specs.declared.Refusal.TheVariants.{BadPart, SmallBuffer}
 use Rattle.refusal.proofs.Firsts.{first_not}
