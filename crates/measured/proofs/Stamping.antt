@@ -1,5 +1,5 @@
 -- Calls that each make a document.
-use Rattle.std.proofs.Common.{◌≡◌, ℕ, ◌+◌, ◌<◌, ◌≤◌, false, ltb, min, List, [], ◌∷◌, ◌++◌, length, get_or, take, drop, codes, Some, None, Ok, Err, Option, Result, sym, refl, ap, ◌∙◌, subst, arith, length-append, Bor}
+use Rattle.std.proofs.Common.{◌≡◌, ℕ, ◌+◌, ◌≤◌, ltb, min, List, [], ◌∷◌, ◌++◌, length, get_or, take, drop, codes, Some, None, Ok, Err, Option, Result, sym, refl, ap, ◌∙◌, arith, length-append, Bor}
 use Rattle.std.specs.List.{between}
 use Rattle.std.proofs.Math.Seq.{get_or-append_seam, take-length}
 use Rattle.std.proofs.lemmas.Slice.{between_from_start}
@@ -8,18 +8,18 @@ use Rattle.std.proofs.lemmas.List.{get_or_append_left, length-take, take_all}
 use Rattle.rope_cut.specs.Parts.{spliced}
 use Rattle.refusal.specs.declared.limits.TheConstants.{MOST_BYTES, MOST_TEXT}
 use Rattle.refusal.proofs.Firsts.{first_none}
-use Rattle.shelf_view.specs.State.{State, text_at}
+use Rattle.shelf_view.specs.State.{text_at}
 use Rattle.refusal.specs.declared.Refusal.{Refusal}
 use Rattle.text_shelf.specs.Shelves.{parts, brought, told, strings}
 use Rattle.text_shelf.specs.Calls.{appended, accepted, answer, reasons, every_shelf}
 use Rattle.text_shelf.specs.Steps.{Stepped, Steps, made}
-use Rattle.text_shelf.specs.Whys.{why}
+use Rattle.text_shelf.specs.Whys.{why_call}
 use Rattle.text_shelf.specs.declared.call.Call.{Call}
 use Rattle.text_shelf.specs.declared.call.Call.TheVariants.{Put, Take, Splice}
 use Rattle.text_shelf.specs.declared.call.Answer.{Answer}
 use Rattle.text_shelf.specs.declared.call.Answer.TheVariants.{Made}
 use Rattle.text_shelf.specs.declared.shelf.Shelf.{Shelf}
-use Rattle.measured.specs.Stamps.{stamped, Holds}
+use Rattle.measured.specs.Stamps.{stamped, HasText}
 
 -- one place more
 pub stamped_more : (text places : List ℕ) (a : ℕ) → stamped text (places ++ (a ∷ [])) ≡ spliced (stamped text places) a (a + 8) (codes "gatsomev")
@@ -28,22 +28,22 @@ stamped_more text (b ∷ places) a = stamped_more (spliced text b (b + 8) (codes
 
 -- an accepted call that appends this text
 pub record Adds {V R : Type 0} {kind : _} (s t : Shelf V R kind) (call : Call) (n : ℕ) (text : List ℕ) : Type 0 where
-  pub none : why s call ≡ None
+  pub none : why_call s call ≡ None
   pub number : n ≡ length (strings (parts s)).texts
   pub texts : (strings (parts t)).texts ≡ (strings (parts s)).texts ++ (text ∷ [])
   pub build : t.store.build.now ≡ s.store.build.now
 
-number_of : Answer → ℕ
-number_of (Made n) = n
-number_of x = 0
+number_in : Answer → ℕ
+number_in (Made n) = n
+number_in x = 0
 
 pub adds : {V R : Type 0} {kind : _} (s t : Shelf V R kind) (call : Call) (n k : ℕ) (text : List ℕ)
     → accepted s.store.build.now call (strings (parts s)) ≡ appended (strings (parts s)) text k → answer s.mark (strings (parts s)) call ≡ Made (length (strings (parts s)).texts)
     → Steps s call (made (Ok n)) t → Adds s t call n text
-unfolding number_of
-adds s t call n k text makes answers step = by (why s call) refl step
+unfolding number_in
+adds s t call n k text makes answers step = by (why_call s call) refl step
   where
-    by : (w : Option Refusal) → why s call ≡ w → Stepped every_shelf w s call (made (Ok n)) t → Adds s t call n text
+    by : (w : Option Refusal) → why_call s call ≡ w → Stepped every_shelf w s call (made (Ok n)) t → Adds s t call n text
     by (Some e) h p = absurd (let z : ◌≡◌ {A = Result Answer Refusal} (Ok (Made n)) (Err e) = p.0 in cc)
     by None h p = record {
       none = h;
@@ -60,27 +60,27 @@ module _ {V R : Type 0} {kind : _} {s t : Shelf V R kind} {call : Call} {n : ℕ
   long = ap length a.texts ∙ length-append (strings (parts s)).texts (text ∷ [])
 
   -- the new document is there,
-  pub new_there : Holds t n text
+  pub new_there : HasText t n text
   new_there = (
     omega (arith, long, a.number),
     ap (λ ts. get_or ts n []) a.texts ∙ ap (λ k. get_or ((strings (parts s)).texts ++ (text ∷ [])) k []) a.number ∙ get_or-append_seam (strings (parts s)).texts text [] [],
   )
 
   -- and each that was there
-  pub old_there : (d : ℕ) (old : List ℕ) → Holds s d old → Holds t d old
+  pub old_there : (d : ℕ) (old : List ℕ) → HasText s d old → HasText t d old
   old_there d old h = (
     omega (arith, long, h.0),
     ap (λ ts. get_or ts d []) a.texts ∙ get_or_append_left (strings (parts s)).texts (text ∷ []) [] d h.0 ∙ h.1,
   )
 
 -- what is taken lies within the build text
-pub within : {V R : Type 0} {kind : _} (s : Shelf V R kind) (a b : ℕ) → why s (Take a b) ≡ None → b ≤ length s.store.build.now
+pub within : {V R : Type 0} {kind : _} (s : Shelf V R kind) (a b : ℕ) → why_call s (Take a b) ≡ None → b ≤ length s.store.build.now
 within s a b none =
     let pass = first_none (reasons (brought (parts s)) (told (parts s)) (strings (parts s)) (Take a b)) none in
     ltb-false _ _ (or_parts (ltb b a) (ltb (length s.store.build.now) b) pass.0).1
 
 -- the end of eight bytes that a splice took is no sum that was cut off
-pub eight : {V R : Type 0} {kind : _} (s : Shelf V R kind) (d a b e : ℕ) → why s (Splice d a b e) ≡ None → b ≡ min (a + 8) 18446744073709551615 → b ≡ a + 8
+pub eight : {V R : Type 0} {kind : _} (s : Shelf V R kind) (d a b e : ℕ) → why_call s (Splice d a b e) ≡ None → b ≡ min (a + 8) 18446744073709551615 → b ≡ a + 8
 eight s d a b e none cut =
     let z = strings (parts s) in
     let text = text_at z d in
@@ -90,9 +90,9 @@ eight s d a b e none cut =
     omega (arith, cut, short, ltb-false _ _ part.0, ltb-false _ _ part.1, length-append (take a text) (text_at z e ++ drop b text), length-take a text)
 
 -- the newest document with the stamp at one place more
-pub stamps : {V R : Type 0} {kind : _} (s t : Shelf V R kind) (newest a b stamp n : ℕ) (text places : List ℕ) → Holds s newest (stamped text places) → Holds s stamp (codes "gatsomev")
+pub stamps : {V R : Type 0} {kind : _} (s t : Shelf V R kind) (newest a b stamp n : ℕ) (text places : List ℕ) → HasText s newest (stamped text places) → HasText s stamp (codes "gatsomev")
     → b ≡ min (a + 8) 18446744073709551615 → Steps s (Splice newest a b stamp) (made (Ok n)) t
-    → Holds t n (stamped text (places ++ (a ∷ []))) × Holds t stamp (codes "gatsomev")
+    → HasText t n (stamped text (places ++ (a ∷ []))) × HasText t stamp (codes "gatsomev")
 stamps s t newest a b stamp n text places new old cut step =
     let z = strings (parts s) in
     let added = adds s t (Splice newest a b stamp) n 0 (spliced (text_at z newest) a b (text_at z stamp)) refl refl step in

@@ -1,6 +1,6 @@
 -- What the splices of the benchmark make.
-use Rattle.std.specs.Prelude.{◌≡◌, ℕ, zero, suc, ◌+◌, ◌<◌, List, [], ◌∷◌, length, codes, Some}
-use Rattle.decimal.specs.Decimal.{Copied}
+use Rattle.std.specs.Prelude.{◌≡◌, ℕ, zero, suc, ◌+◌, ◌<◌, List, [], ◌∷◌, length, codes}
+use Rattle.refusal.specs.Writing.{Stands}
 use Rattle.zemor.specs.Values.{row}
 use Rattle.zemor.specs.Written.{bytes_of}
 use Rattle.zemor.specs.declared.matrix.Sl2.{Sl2}
@@ -16,10 +16,10 @@ stamped text [] = text
 stamped text (a ∷ places) = stamped (spliced text a (a + 8) (codes "gatsomev")) places
 
 -- document d is there, and has this text
-abbrev pub Holds : {V R : Type 0} {kind : _} → Shelf V R kind → ℕ → List ℕ → Type 0
-Holds s d text = (d < length (strings (parts s)).texts) × (text_at (strings (parts s)) d ≡ text)
+abbrev pub HasText : {V R : Type 0} {kind : _} → Shelf V R kind → ℕ → List ℕ → Type 0
+HasText s d text = (d < length (strings (parts s)).texts) × (text_at (strings (parts s)) d ≡ text)
 
 -- a fingerprint's sixteen bytes stand at the buffer's start behind the answer 0; behind any other the buffer is as it was
-abbrev pub Answers : Sl2 → List ℕ → List ℕ → ℕ → Type 0
-Answers x old new zero = Copied (bytes_of (row x)) old (Some 16) new
-Answers x old new (suc n) = new ≡ old
+abbrev pub WritesBytes : Sl2 → List ℕ → List ℕ → ℕ → Type 0
+WritesBytes x old new zero = Stands (bytes_of (row x)) old 16 new
+WritesBytes x old new (suc n) = new ≡ old

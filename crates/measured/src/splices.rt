@@ -2,12 +2,12 @@
 ghost use Rattle.std.specs.Prelude.{◌≡◌, ◌≤◌, IfOk, length};
 ghost use Rattle.std.specs.List.{between};
 ghost use Rattle.shelf_view.specs.Marked.{fingerprint};
-ghost use Rattle.measured.specs.Stamps.{stamped, Holds, Answers};
+ghost use Rattle.measured.specs.Stamps.{stamped, HasText, WritesBytes};
 
-use script::run::MarkedShelf;
+use refusal::{Refusal, write_start};
 use shelf_memory::memory::{Memory, Sizes};
-use refusal::Refusal;
 use std::alloc::Global;
+use text_shelf::named::MarkedShelf;
 use zemor::matrix::Sl2;
 
 /// What each splice writes, in the place of as many bytes.
@@ -27,7 +27,7 @@ fn stamp_all<'b, 'a>(
     len: usize,
     places: &[usize],
 ) -> Result<u32, Refusal>
-    ensures { IfOk result (λ d. (len ≤ length shelf.old.store.build.now) × Holds shelf.new d (stamped (between 0 len shelf.old.store.build.now) places.now)) }
+    ensures { IfOk result (λ d. (len ≤ length shelf.old.store.build.now) × HasText shelf.new d (stamped (between 0 len shelf.old.store.build.now) places.now)) }
 {
     let stamp = shelf.put(STAMP)?;
     let mut newest = shelf.take(0, len)?;
@@ -43,7 +43,7 @@ fn round(memory: &mut Memory, build: &[u8], places: &[usize]) -> Result<Sl2, Ref
 {
     let mut shelf = memory.shelf(build);
     let newest = stamp_all(&mut shelf, build.len(), places)?;
-    Ok(shelf.view().summary(newest)?.first)
+    Ok(shelf.view().document(newest)?.summary().first)
 }
 
 /// The same, as often as there are rounds, and once at least; each time on a fresh shelf over the same memory.
@@ -63,7 +63,8 @@ fn rounds_of(
 }
 
 /// Writes the sixteen bytes of that fingerprint at the start of `out`. Answers 0 where every call of every round was accepted
-/// and `out` has room, else the number of the first refusal; 255 where there is no memory for the shelf.
+/// and `out` has room, else the number of the first refusal; 255 where there is no memory for the shelf. Takes time in the
+/// length of the build text and the size of the memory, and each round in the number of places.
 #[unsafe(no_mangle)]
 pub extern "C" fn measured_splices(
     heap: Global,
@@ -72,7 +73,7 @@ pub extern "C" fn measured_splices(
     rounds: usize,
     out: &mut [u8],
 ) -> u32
-    ensures { Answers (fingerprint (stamped build.now places.now)) out.old out.new result }
+    ensures { WritesBytes (fingerprint (stamped build.now places.now)) out.old out.new result }
 {
     let Ok(mut memory) = Memory::new(heap, SIZES) else {
         return 255;
@@ -83,12 +84,12 @@ pub extern "C" fn measured_splices(
     }
 }
 
-/// Writes the sixteen bytes of a fingerprint at the start of `out`, and answers 0; or 8, where they do not fit.
+/// Writes the sixteen bytes of a fingerprint at the start of `out`, and answers 0; or a refusal's number, where they do not fit.
 fn write(told: Sl2, out: &mut [u8]) -> u32
-    ensures { Answers told out.old out.new result }
+    ensures { WritesBytes told out.old out.new result }
 {
-    match decimal::copy(&told.to_bytes(), out) {
-        Some(_) => 0,
-        None => Refusal::SmallBuffer.number() as u32,
+    match write_start(&told.to_bytes(), out) {
+        Ok(_) => 0,
+        Err(why) => why.number() as u32,
     }
 }

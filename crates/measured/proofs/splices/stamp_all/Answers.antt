@@ -1,8 +1,8 @@
-use Rattle.std.proofs.Common.{◌+◌, ◌≤◌, [], ◌∷◌, take, length, get_or, codes, refl, sym, ap, ◌∙◌, subst, arith}
+use Rattle.std.proofs.Common.{◌≤◌, take, length, get_or, codes, refl, sym, subst, arith}
 use Rattle.std.specs.List.{between}
 use Rattle.std.proofs.lemmas.List.{take_more}
 use Rattle.text_shelf.specs.declared.call.Call.TheVariants.{Take}
-use Rattle.measured.specs.Stamps.{stamped, Holds}
+use Rattle.measured.specs.Stamps.{stamped, HasText}
 use Rattle.measured.proofs.Stamping.{adds, puts, new_there, old_there, stamps, within}
 use Rattle.measured.proofs.splices.stamp_all.Goals as goal
 
@@ -15,7 +15,7 @@ loop-a-init c =
       within = subst (λ b. c.args.len ≤ length b) put.build (within c.put.new.self 0 c.args.len took.none);
       index = omega arith;
       stamp = old_there took c.in_ok-stamp.stamp (codes "gatsomev") (new_there put);
-      newest = subst (λ b. Holds c.take.new.self c.in_ok-newest.newest (between 0 c.args.len b)) put.build (new_there took);
+      newest = subst (λ b. HasText c.take.new.self c.in_ok-newest.newest (between 0 c.args.len b)) put.build (new_there took);
     }
 
 pub loop-a-preserved : goal.loop-a-preserved
@@ -28,5 +28,5 @@ loop-a-preserved c =
       within = c.loop-a.invariant.within;
       index = omega arith;
       stamp = more.1;
-      newest = subst (λ ps. Holds c.splice.new.self c.in_ok-newest-2.newest (stamped text ps)) (sym (take_more c.args.places.now i 0 (omega arith))) more.0;
+      newest = subst (λ ps. HasText c.splice.new.self c.in_ok-newest-2.newest (stamped text ps)) (sym (take_more c.args.places.now i 0 (omega arith))) more.0;
     }
