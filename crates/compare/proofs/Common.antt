@@ -7,7 +7,7 @@ use Rattle.std.proofs.lemmas.List.{take-append-drop, drop-drop, length-drop, len
 use Rattle.std.proofs.lemmas.List.Edits.{split_between}
 use Rattle.std.proofs.lemmas.List.Sums.{take_while-cons}
 use Rattle.compare.specs.Changes.{front_of, back_of}
-use Rattle.compare.proofs.Runs.{front_le, back_le}
+use Rattle.compare.proofs.Runs.{back_le}
 
 abbrev alike : ℕ × ℕ → Bool
 alike p = p.0 == p.1

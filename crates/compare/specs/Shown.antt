@@ -7,9 +7,9 @@ use Rattle.compare.specs.declared.told.Place.{Place}
 use Rattle.compare.specs.declared.told.Told.{Told}
 
 -- the place of a text, and its lines and columns up to there
-abbrev pub Stands : List ℕ → ℕ → Place → Type 0
-Stands text place p = (p.place ≡ place) × (p.front ≡ fold_of marked (between 0 place text))
+abbrev pub IsPlace : List ℕ → ℕ → Place → Type 0
+IsPlace text place p = (p.place ≡ place) × (p.front ≡ fold_of marked (between 0 place text))
 
 -- a text's length and summary
-abbrev pub Tells : List ℕ → Told → Type 0
-Tells text t = (t.bytes ≡ length text) × (t.summary ≡ fold_of marked text)
+abbrev pub IsTold : List ℕ → Told → Type 0
+IsTold text t = (t.bytes ≡ length text) × (t.summary ≡ fold_of marked text)

@@ -124,7 +124,8 @@ fn write_read_back<'v, 't, W: Write>(
         )?;
         return Ok(());
     }
-    let fingerprint = view.summary(new.number).map_err(refused)?.first.to_hex();
+    let told = view.document(new.number).map_err(refused)?.summary();
+    let fingerprint = told.first.to_hex();
     let mut window = [0; MOST_WINDOW];
     let n = view
         .read_back(old.number, from, to, &fingerprint, &mut window)

@@ -4,11 +4,11 @@ use crate::files::read;
 use crate::memory::memory;
 use crate::told::{MarkedView, place_in, refused, tell};
 use anyhow::{Context, Result};
-use script::run::MarkedShelf;
 use shelf_view::sameness::Sameness;
 use std::fmt::Display;
 use std::io::Write;
 use std::rt::Files;
+use text_shelf::named::MarkedShelf;
 
 /// At most so many digits are edited, as five bytes can be read back.
 const MOST_DIGITS: usize = 5;
@@ -101,7 +101,8 @@ fn write_read_back<'v, W: Write>(
     e: u32,
     out: &mut W,
 ) -> Result<()> {
-    let fingerprint = view.summary(e).map_err(refused)?.first.to_hex();
+    let told = view.document(e).map_err(refused)?.summary();
+    let fingerprint = told.first.to_hex();
     let mut window = [0; MOST_DIGITS];
     let n = view
         .read_back(d, part.from, part.to, &fingerprint, &mut window)

@@ -2,23 +2,23 @@
 #![tactic(auto)]
 
 mod change;
-mod command;
 mod compare;
 mod edits;
 mod files;
 mod lines;
 mod memory;
+mod task;
 mod told;
 
 use anyhow::Result;
-use command::Command;
 use std::env;
+use task::Task;
 
 fn main(rt: HostRuntime) -> Result<()> {
     let words: Vec<String> = env::args(&rt)?.collect(rt.alloc())?;
     let mut out = rt.stdout();
-    match Command::of(&words)? {
-        Command::Compare { old, new } => compare::run(&rt, old, new, &mut out),
-        Command::Edits { file } => edits::run(&rt, file, &mut out),
+    match Task::of(&words)? {
+        Task::Compare { old, new } => compare::run(&rt, old, new, &mut out),
+        Task::Edits { file } => edits::run(&rt, file, &mut out),
     }
 }

@@ -5,6 +5,7 @@ ghost use Rattle.shelf_memory.specs.Sizes.{Holds};
 use shelf_memory::memory::{Memory, Sizes};
 use std::alloc::{AllocError, Global};
 
+/// So much memory from the heap: 65,536 records, 4,096 added bytes, 8 places. Takes time in its size.
 pub fn memory(heap: Global) -> Result<Memory, AllocError>
     ensures { IfOk result (Holds (record { records = 65536; added = 4096; places = 8 })) }
 {

@@ -2,12 +2,12 @@
 ghost use Rattle.refusal.specs.Refusals.{Answers};
 ghost use Rattle.shelf_view.specs.State.{strings, text_at};
 ghost use Rattle.shelf_view.specs.Questions.{of_document, of_part};
-ghost use Rattle.compare.specs.Shown.{Stands, Tells};
+ghost use Rattle.compare.specs.Shown.{IsPlace, IsTold};
 
 use anyhow::{Error, anyhow};
 use monoid::line_column::LineColumn;
-use script::run::Marked;
 use refusal::Refusal;
+use shelf_view::marked::Marked;
 use shelf_view::view::View;
 use std::fmt;
 
@@ -39,7 +39,7 @@ impl fmt::Display for Place {
 
 /// A place in document `d`.
 pub fn place_in<'v>(view: MarkedView<'v>, d: u32, place: usize) -> Result<Place, Refusal>
-    ensures { Answers (of_part (strings view.entry) d 0 place) (Stands (text_at (strings view.entry) d) place) result }
+    ensures { Answers (of_part (strings view.entry) d 0 place) (IsPlace (text_at (strings view.entry) d) place) result }
 {
     let front = view.part_summary(d, 0, place)?;
     Ok(Place { place, front })
@@ -66,10 +66,11 @@ impl fmt::Display for Told {
 
 /// What is told of document `d`.
 pub fn tell<'v>(view: MarkedView<'v>, d: u32) -> Result<Told, Refusal>
-    ensures { Answers (of_document (strings view.entry) d) (Tells (text_at (strings view.entry) d)) result }
+    ensures { Answers (of_document (strings view.entry) d) (IsTold (text_at (strings view.entry) d)) result }
 {
+    let document = view.document(d)?;
     Ok(Told {
-        bytes: view.len(d)?,
-        summary: view.summary(d)?,
+        bytes: document.len(),
+        summary: document.summary(),
     })
 }

@@ -1,9 +1,10 @@
 //! Scripts with their answers, each on a fresh shelf of 1,024 records, 16,384 added bytes and 64 places.
 use monoid::Monoid;
+use refusal::Refusal;
 use rope::record::Record;
 use script::answer::MOST_ANSWER;
-use refusal::Refusal;
-use script::run::{Answered, Marked, run, run_all, run_into};
+use script::run::{Answered, run, run_all, run_into};
+use shelf_view::marked::Marked;
 use std::alloc::Global;
 use std::io;
 use std::io::{ErrorKind, Write};
@@ -23,7 +24,7 @@ const CASES: [Case; 24] = [
         at: 0,
         answers: b"",
     },
-    // every call
+    // every command
     Case {
         script: b"11:3:put,2:ab,,9:3:put,0:,,18:3:cut,1:1,1:1,1:2,,25:6:splice,1:1,1:1,1:1,1:1,,11:4:text,1:4,,11:4:mark,1:0,,11:4:text,1:2,,",
         at: 0,
@@ -107,7 +108,7 @@ const CASES: [Case; 24] = [
         at: 0,
         answers: b"1:1,5:-1@15,",
     },
-    // a missing comma within a call
+    // a missing comma within a command
     Case {
         script: b"10:3:put2:ab,,11:3:put,2:ab,,",
         at: 0,
@@ -137,7 +138,7 @@ const CASES: [Case; 24] = [
         at: 0,
         answers: b"4:-2@0,1:1,",
     },
-    // the second call alone
+    // the second command alone
     Case {
         script: b"11:3:put,2:ab,,11:4:mark,1:1,,",
         at: 15,
@@ -155,7 +156,7 @@ const CASES: [Case; 24] = [
         at: 22,
         answers: b"",
     },
-    // from within a call: netstrings that hold none, then no netstring
+    // from within a command: netstrings that hold none, then no netstring
     Case {
         script: b"11:3:put,2:ab,,",
         at: 3,
@@ -190,12 +191,12 @@ fn add(text: &mut Vec<u8>, content: &[u8]) -> io::Result<()> {
     text.write_all(b",")
 }
 
-/// Writes a call that puts `text` behind `script`.
+/// Writes a command that puts `text` behind `script`.
 fn add_put(heap: Global, script: &mut Vec<u8>, text: &[u8]) -> io::Result<()> {
-    let mut call = Vec::new(heap);
-    add(&mut call, b"put")?;
-    add(&mut call, text)?;
-    add(script, &call)
+    let mut command = Vec::new(heap);
+    add(&mut command, b"put")?;
+    add(&mut command, text)?;
+    add(script, &command)
 }
 
 // 4,096 bytes are put and told; 4,097 are not put; spliced together they are a document, and too long to be told.
@@ -248,7 +249,7 @@ fn answers_need_a_buffer(rt: HostRuntime) {
     let script = b"11:3:put,2:ab,,";
     let refused = run(&mut shelf, script, 0, &mut out[1..]);
     assert!(&rt; matches!(refused, Err(Refusal::SmallBuffer)));
-    assert!(&rt; matches!(shelf.view().len(1), Err(Refusal::NoDocument)));
+    assert!(&rt; matches!(shelf.view().document(1), Err(Refusal::NoDocument)));
     let answered = run(&mut shelf, script, 0, &mut out);
     assert!(&rt; matches!(answered, Ok(Answered { len: 4, next: 15 })));
     assert_eq!(&rt; &out[..6], b"1:1,..".as_slice());
@@ -310,7 +311,7 @@ impl Write for Narrow {
     }
 }
 
-// Four answers of four bytes each: a writer with less room holds that front of them. The call whose answer is cut was run,
+// Four answers of four bytes each: a writer with less room holds that front of them. The command whose answer is cut was run,
 // and none behind it.
 #[test]
 fn a_failing_writer_holds_a_front_of_the_answers(rt: HostRuntime) {
@@ -340,8 +341,8 @@ fn a_failing_writer_holds_a_front_of_the_answers(rt: HostRuntime) {
                     }
                 }
                 let last = (room / 4 + 1).min(4) as u32;
-                assert!(&rt; shelf.view().len(last).is_ok());
-                assert!(&rt; matches!(shelf.view().len(last + 1), Err(Refusal::NoDocument)));
+                assert!(&rt; shelf.view().document(last).is_ok());
+                assert!(&rt; matches!(shelf.view().document(last + 1), Err(Refusal::NoDocument)));
             }
         }
     }
