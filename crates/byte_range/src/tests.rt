@@ -1,7 +1,7 @@
 use crate::range::ByteRange;
 use monoid::Monoid;
 use refusal::Refusal;
-use rope::record::{Record, Shape, Origin};
+use rope::record::{Origin, Record, Shape};
 use std::test::Fail;
 use text_shelf::shelf::Shelf;
 
