@@ -10,7 +10,7 @@ use Rattle.refusal.specs.declared.limits.TheConstants.{MOST_BYTES, MOST_TEXT}
 use Rattle.refusal.proofs.Firsts.{first_none}
 use Rattle.shelf_view.specs.State.{text_at}
 use Rattle.refusal.specs.declared.Refusal.{Refusal}
-use Rattle.text_shelf.specs.Shelves.{parts, brought, told, strings}
+use Rattle.text_shelf.specs.Shelves.{parts, brought, measures, strings}
 use Rattle.text_shelf.specs.Calls.{appended, accepted, answer, reasons, every_shelf}
 use Rattle.text_shelf.specs.Steps.{Stepped, Steps, made}
 use Rattle.text_shelf.specs.Whys.{why_call}
@@ -76,7 +76,7 @@ module _ {V R : Type 0} {kind : _} {s t : Shelf V R kind} {call : Call} {n : ℕ
 -- what is taken lies within the build text
 pub within : {V R : Type 0} {kind : _} (s : Shelf V R kind) (a b : ℕ) → why_call s (Take a b) ≡ None → b ≤ length s.store.build.now
 within s a b none =
-    let pass = first_none (reasons (brought (parts s)) (told (parts s)) (strings (parts s)) (Take a b)) none in
+    let pass = first_none (reasons (brought (parts s)) (measures (parts s)) (strings (parts s)) (Take a b)) none in
     ltb-false _ _ (or_parts (ltb b a) (ltb (length s.store.build.now) b) pass.0).1
 
 -- the end of eight bytes that a splice took is no sum that was cut off
@@ -84,7 +84,7 @@ pub eight : {V R : Type 0} {kind : _} (s : Shelf V R kind) (d a b e : ℕ) → w
 eight s d a b e none cut =
     let z = strings (parts s) in
     let text = text_at z d in
-    let pass = first_none (reasons (brought (parts s)) (told (parts s)) z (Splice d a b e)) none in
+    let pass = first_none (reasons (brought (parts s)) (measures (parts s)) z (Splice d a b e)) none in
     let part = or_parts (ltb b a) (ltb (length text) b) pass.1.0 in
     let short : length (spliced text a b (text_at z e)) ≤ MOST_TEXT = ltb-false _ _ pass.1.1.0 in
     omega (arith, cut, short, ltb-false _ _ part.0, ltb-false _ _ part.1, length-append (take a text) (text_at z e ++ drop b text), length-take a text)

@@ -41,6 +41,6 @@ abbrev pub NoNumber : List ℕ → Type 0
 NoNumber s = (n : ℕ) → Number s n → ⊥
 
 -- where a netstring was written, the one netstring at the front of the buffer has the content c
-abbrev pub ReadsBack : List ℕ → Result ℕ Refusal → List ℕ → Type 0
-ReadsBack c (Err e) is = Unit {0}
-ReadsBack c (Ok k) is = NetstringAt is 0 c k
+abbrev pub ReadAgain : List ℕ → Result ℕ Refusal → List ℕ → Type 0
+ReadAgain c (Err e) is = Unit {0}
+ReadAgain c (Ok k) is = NetstringAt is 0 c k

@@ -1,7 +1,7 @@
 //! Writing netstrings.
 ghost use Rattle.std.specs.Prelude.{length};
 ghost use Rattle.refusal.specs.Writing.{Writes, of_room};
-ghost use Rattle.netstring.specs.Netstring.{netstring, ReadsBack};
+ghost use Rattle.netstring.specs.Netstring.{netstring, ReadAgain};
 
 use refusal::{Refusal, write_start};
 
@@ -11,7 +11,7 @@ use refusal::{Refusal, write_start};
 /// Takes time in the length of `content`.
 pub fn write(content: &[u8], out: &mut [u8]) -> Result<usize, Refusal>
     ensures written { Writes (of_room (length (netstring content.now)) (length out.old)) (netstring content.now) out.old out.new result }
-    ensures reads_back { ReadsBack content.now result out.new }
+    ensures reads_back { ReadAgain content.now result out.new }
 {
     let len = content.len();
     let k = decimal::count(len as u64);

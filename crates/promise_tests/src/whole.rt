@@ -4,7 +4,7 @@ use crate::reach::{reach_one, reach_other};
 use crate::summaries::{All, Figures, is_told};
 use monoid::Monoid;
 use rope::record::Record;
-use shelf_promise::promise::{Asked, Place, Told, ask};
+use shelf_promise::promise::{Asked, DocumentPart, Replies, ask};
 use shelf_view::marked::Marked;
 use text_shelf::named::MarkedShelf;
 use text_shelf::shelf::Shelf;
@@ -24,12 +24,12 @@ type Row = (Asked, &'static [u8], Wanted);
 static OF_TWO: [Row; 2] = [
     (
         Asked {
-            part: Place {
+            part: DocumentPart {
                 document: 6,
                 from: 40,
                 to: 90,
             },
-            window: Place {
+            window: DocumentPart {
                 document: 3,
                 from: 46,
                 to: 50,
@@ -63,12 +63,12 @@ static OF_TWO: [Row; 2] = [
     ),
     (
         Asked {
-            part: Place {
+            part: DocumentPart {
                 document: 10,
                 from: 0,
                 to: 0,
             },
-            window: Place {
+            window: DocumentPart {
                 document: 3,
                 from: 50,
                 to: 46,
@@ -83,12 +83,12 @@ static OF_TWO: [Row; 2] = [
 /// And where the two marked ones are one.
 static OF_ONE: [Row; 1] = [(
     Asked {
-        part: Place {
+        part: DocumentPart {
             document: 6,
             from: 90,
             to: 40,
         },
-        window: Place {
+        window: DocumentPart {
             document: 1,
             from: 46,
             to: 50,
@@ -124,7 +124,7 @@ fn keeps<'b, 'a, 'c, 'd, 'e, 'f>(
     let (asked, digits, wanted) = *row;
     let (whole, piece, marks, back) = wanted;
     let mut out = [9; 8];
-    let Told {
+    let Replies {
         summary,
         part,
         fingerprints,

@@ -4,9 +4,9 @@ use Rattle.std.proofs.lemmas.List.{map_push, get_or_push}
 use Rattle.monoid.specs.Monoid.{Model, Lawful, fold_of, all_bytes}
 use Rattle.monoid.proofs.Folds.{fold_append}
 use Rattle.rope.specs.Tree.{Tree, leaf, text, size, height, all_lawful}
-use Rattle.rope.specs.Arena.{Arena, Sound, Summed, Reads, arena, forest, part, origin_text, row_in}
+use Rattle.rope.specs.Arena.{Arena, Sound, Summed, IsRecord, arena, forest, part, origin_text, row_in}
 use Rattle.rope.specs.Memory.{arena_of, tree_of}
-use Rattle.rope.specs.Steps.{shown, Fine, Leafs, Pairs}
+use Rattle.rope.specs.Steps.{tree_for, Fine, Leafs, Pairs}
 use Rattle.rope.specs.declared.record.Record.{Record}
 use Rattle.rope.specs.declared.record.Shape.TheVariants.{Leaf, Inner}
 use Rattle.rope.specs.declared.record.Origin.{Origin}
@@ -24,16 +24,16 @@ module _ {V R : Type 0} {kind : _} (m : Model V R) (s : Store V R kind) (summed 
   abbrev after : Arena R
   after = arena s.build.now (arena_of s).added rs
 
-  pub pushed_forest : forest after ≡ ts ++ (shown s r ∷ [])
+  pub pushed_forest : forest after ≡ ts ++ (tree_for s r ∷ [])
   pushed_forest =
       ap (λ x. forest (arena s.build.now (arena_of s).added x)) more
       ∙ grown_append s.build.now (arena_of s).added [] (arena_of s).records (r ∷ [])
 
-  pushed_map : {A : Type 0} (p : Record R → A) (q : Tree → A) → map p (arena_of s).records ≡ map q ts → p r ≡ q (shown s r) → map p rs ≡ map q (forest after)
+  pushed_map : {A : Type 0} (p : Record R → A) (q : Tree → A) → map p (arena_of s).records ≡ map q ts → p r ≡ q (tree_for s r) → map p rs ≡ map q (forest after)
   pushed_map p q h k =
       ap (map p) more ∙ map_push p (arena_of s).records r
       ∙ ap (λ xs. xs ++ (p r ∷ [])) h ∙ ap (λ x. map q ts ++ (x ∷ [])) k
-      ∙ sym (map_push q ts (shown s r)) ∙ ap (map q) (sym pushed_forest)
+      ∙ sym (map_push q ts (tree_for s r)) ∙ ap (map q) (sym pushed_forest)
 
   pub pushed_sound : Sound after
   pushed_sound =
@@ -41,7 +41,7 @@ module _ {V R : Type 0} {kind : _} (m : Model V R) (s : Store V R kind) (summed 
         build_short = s.sound.build_short;
         added_short = s.sound.added_short;
         few = omega (arith, ap length more, length-append (arena_of s).records (r ∷ []), used_length s, f.free.few);
-        lawful_trees = ap all_lawful pushed_forest ∙ all_lawful_push ts (shown s r) s.sound.lawful_trees f.lawful_tree;
+        lawful_trees = ap all_lawful pushed_forest ∙ all_lawful_push ts (tree_for s r) s.sound.lawful_trees f.lawful_tree;
         lengths = pushed_map (λ y. y.length) size s.sound.lengths f.long;
         heights = pushed_map (λ y. y.height) height s.sound.heights f.high;
       }
@@ -49,11 +49,11 @@ module _ {V R : Type 0} {kind : _} (m : Model V R) (s : Store V R kind) (summed 
   pub pushed_summed : Summed m after
   pushed_summed = pushed_map (λ y. y.row) (row_in m) summed f.row
 
-  pub pushed_tree : get_or (forest after) s.records.used (leaf []) ≡ shown s r
-  pushed_tree = ap (λ (xs : List Tree). get_or xs s.records.used (leaf [])) pushed_forest ∙ get_or_push ts (shown s r) (leaf []) s.records.used (forest_length s)
+  pub pushed_tree : get_or (forest after) s.records.used (leaf []) ≡ tree_for s r
+  pushed_tree = ap (λ (xs : List Tree). get_or xs s.records.used (leaf [])) pushed_forest ∙ get_or_push ts (tree_for s r) (leaf []) s.records.used (forest_length s)
 
 pub inner_fine : {V R : Type 0} {kind : _} (m : Model V R) (laws : Lawful m) (s : Store V R kind) (l r : ℕ) (p : Pairs s l r) (x y : Record R) (h : ℕ) (v : R)
-    → Reads m (arena_of s) l x → Reads m (arena_of s) r y → h ≡ max x.height y.height
+    → IsRecord m (arena_of s) l x → IsRecord m (arena_of s) r y → h ≡ max x.height y.height
     → v ≡ m.row (m.joined (fold_of m (text (tree_of s l))) (fold_of m (text (tree_of s r))))
     → Fine m s (record { shape = Inner l r; length = x.length + y.length; height = h + 1; row = v })
 inner_fine m laws s l r p x y h v al ar high row =

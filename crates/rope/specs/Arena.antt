@@ -73,7 +73,7 @@ Shows a i n (Leaf origin start) = (start + n ≤ length (origin_text a origin)) 
 Shows a i n (Inner l r) = (l < i) × (r < i) × (tree_at a i ≡ node (tree_at a l) (tree_at a r))
 
 -- what is known of record i, where it is r
-pub record Reads {V R : Type 0} (m : Model V R) (a : Arena R) (i : ℕ) (r : Record R) : Type 0 where
+pub record IsRecord {V R : Type 0} (m : Model V R) (a : Arena R) (i : ℕ) (r : Record R) : Type 0 where
   pub is : r ≡ slice_index_or a.records i r
   pub lawful_tree : lawful (tree_at a i) ≡ true
   pub long : r.length ≡ size (tree_at a i)

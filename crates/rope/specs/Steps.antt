@@ -10,16 +10,16 @@ use Rattle.rope.specs.declared.record.Record.{Record}
 use Rattle.rope.specs.declared.store.Store.{Store}
 
 -- the tree that a record would stand for, if it were pushed
-abbrev pub shown : {V R : Type 0} {kind : _} → Store V R kind → Record R → Tree
-shown s r = shaped (arena_of s).build (arena_of s).added (forest (arena_of s)) r.length r.shape
+abbrev pub tree_for : {V R : Type 0} {kind : _} → Store V R kind → Record R → Tree
+tree_for s r = shaped (arena_of s).build (arena_of s).added (forest (arena_of s)) r.length r.shape
 
 -- what a record to push has to be
 pub record Fine {V R : Type 0} {kind : _} (m : Model V R) (s : Store V R kind) (r : Record R) : Type 0 where
   pub free : Free s 1
-  pub lawful_tree : lawful (shown s r) ≡ true
-  pub long : r.length ≡ size (shown s r)
-  pub high : r.height ≡ height (shown s r)
-  pub row : r.row ≡ row_in m (shown s r)
+  pub lawful_tree : lawful (tree_for s r) ≡ true
+  pub long : r.length ≡ size (tree_for s r)
+  pub high : r.height ≡ height (tree_for s r)
+  pub row : r.row ≡ row_in m (tree_for s r)
 
 -- r is the one new record, and stands for the tree u
 pub record Pushed {V R : Type 0} {kind : _} (s t : Store V R kind) (r : ℕ) (u : Tree) : Type 0 where

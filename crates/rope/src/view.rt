@@ -30,7 +30,7 @@ impl<'v, M: Monoid> Copy for RopeView<'v, M> {}
 
 impl<'v, M: Monoid> RopeView<'v, M> {
     ghost use Rattle.std.specs.Prelude.{◌+◌, ◌<◌, ◌≤◌, length};
-    ghost use Rattle.rope.specs.Arena.{Reads, part, origin_text};
+    ghost use Rattle.rope.specs.Arena.{IsRecord, part, origin_text};
     ghost use Rattle.rope.specs.Memory.{seen};
 
     /// A view of used texts and records, whoever lends them.
@@ -56,7 +56,7 @@ impl<'v, M: Monoid> RopeView<'v, M> {
     /// Record `i`, which tells the length, the height and the summary of its tree.
     pub fn record(self, i: u32) -> Record<M::Row>
         requires { i < length self.records.now }
-        ensures { Reads M.Monoid.model (seen self.entry) i result }
+        ensures { IsRecord M.Monoid.model (seen self.entry) i result }
     {
         self.records[i as usize]
     }

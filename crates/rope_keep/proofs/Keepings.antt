@@ -15,13 +15,13 @@ use Rattle.rope.proofs.Keeping.{keeps_none, keeps_trans}
 use Rattle.rope.proofs.Levels.{level_most}
 use Rattle.rope_cut.specs.Parts.{Rooted, Makes, text_in, height_in, higher, join_cost, edit_need}
 use Rattle.rope_cut.proofs.Roots.{Stays, root_stays, rooted_stays}
-use Rattle.rope_keep.specs.Kept.{Grows, Stands, text_need, add_need}
+use Rattle.rope_keep.specs.Kept.{Grows, LowRoot, text_need, add_need}
 
 nothing : (bs : List ℕ) → length bs ≡ 0 → bs ≡ []
 nothing [] e = refl
 nothing (b ∷ bs) e = absurd (omega arith)
 
-pub stands_empty : {V R : Type 0} {kind : _} (s : Store V R kind) (bs : List ℕ) → length bs ≡ 0 → Stands s None bs
+pub stands_empty : {V R : Type 0} {kind : _} (s : Store V R kind) (bs : List ℕ) → length bs ≡ 0 → LowRoot s None bs
 stands_empty s bs e = record { root = refl; text_is = sym (nothing bs e); low = λ h. absurd (omega arith); six = λ _. omega arith }
 
 pub grows_none : {V R : Type 0} {kind : _} (s : Store V R kind) (bs : List ℕ) (n : ℕ) → length bs ≡ 0 → Grows s s bs n
@@ -33,7 +33,7 @@ grows_none s bs n e =
       cost = omega arith;
     }
 
-pub stands_built : {V R : Type 0} {kind : _} {s t : Store V R kind} {r : ℕ} (origin : Origin) (start n : ℕ) (bs : List ℕ) → Built s t r origin start n → part (arena_of s) origin start n ≡ bs → length bs ≡ n → Stands t (Some r) bs
+pub stands_built : {V R : Type 0} {kind : _} {s t : Store V R kind} {r : ℕ} (origin : Origin) (start n : ℕ) (bs : List ℕ) → Built s t r origin start n → part (arena_of s) origin start n ≡ bs → length bs ≡ n → LowRoot t (Some r) bs
 stands_built {t} {r} origin start n bs b is long =
     let more = ap leaves long in
     record {
@@ -72,7 +72,7 @@ module _ {V R : Type 0} {kind : _} {s s1 : Store V R kind} {at : ℕ} {bs : List
       }
 
 module _ {V R : Type 0} {kind : _} {s s1 : Store V R kind} {p more : Root} {bs : List ℕ} (here : Rooted s p) (short : (length bs ≤ MOST_BROUGHT) × (length (text_in s p) + length bs < 2 ^ 32))
-    (free : Free s (add_need (height_in s p) (length bs))) (grown : Grows s s1 bs (text_need (length bs))) (stood : Stands s1 more bs) where
+    (free : Free s (add_need (height_in s p) (length bs))) (grown : Grows s s1 bs (text_need (length bs))) (stood : LowRoot s1 more bs) where
   p1 : Stays s s1 p
   p1 = root_stays grown.keeps p here.root
 

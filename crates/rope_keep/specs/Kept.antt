@@ -24,7 +24,7 @@ pub record Grows {V R : Type 0} {kind : _} (s t : Store V R kind) (bs : List ℕ
   pub cost : t.records.used ≤ s.records.used + n
 
 -- r is a new root of the text bs, as low as its leaves allow
-pub record Stands {V R : Type 0} {kind : _} (s : Store V R kind) (r : Root) (bs : List ℕ) : Type 0 where
+pub record LowRoot {V R : Type 0} {kind : _} (s : Store V R kind) (r : Root) (bs : List ℕ) : Type 0 where
   pub root : rooted s.records.used r ≡ true
   pub text_is : text_in s r ≡ bs
   pub low : 0 < height_in s r → 2 ^ (height_in s r - 1) < leaves (length bs)

@@ -8,7 +8,7 @@ ghost use Rattle.rope.specs.Arena.{rooted};
 ghost use Rattle.rope.specs.Memory.{Free, Takes};
 ghost use Rattle.rope_cut.specs.Parts.{Rooted, text_in, height_in};
 ghost use Rattle.rope.specs.Steps.{Addable};
-ghost use Rattle.rope_keep.specs.Kept.{Grows, Stands, text_need, add_need};
+ghost use Rattle.rope_keep.specs.Kept.{Grows, LowRoot, text_need, add_need};
 
 use monoid::Monoid;
 use rope::record::{Origin, Piece, Root};
@@ -20,7 +20,7 @@ pub fn keep<'b, 'a, M: Monoid>(store: &mut Store<'b, 'a, M>, text: &[u8]) -> Roo
     requires addable { Addable store.old (length text.now) }
     requires free { Free store.old (text_need (length text.now)) }
     ensures grows { Grows store.old store.new text.now (text_need (length text.now)) }
-    ensures stands { Stands store.new result text.now }
+    ensures stands { LowRoot store.new result text.now }
 {
     if text.is_empty() {
         return None;
@@ -38,7 +38,7 @@ pub fn take_part<'b, 'a, M: Monoid>(store: &mut Store<'b, 'a, M>, start: u32, co
     requires within { start + count ≤ length store.old.build.now }
     requires free { Free store.old (text_need count) }
     ensures takes { Takes store.old store.new (text_need count) }
-    ensures stands { Stands store.new result (take count (drop start store.old.build.now)) }
+    ensures stands { LowRoot store.new result (take count (drop start store.old.build.now)) }
 {
     if count == 0 {
         return None;

@@ -14,8 +14,8 @@ abbrev pub whole_bytes : {V R : Type 0} {kind : _} → Whole V R kind → List �
 whole_bytes t = text_of (seen t.view) t.root
 
 -- the bytes of a slice are those between its two bounds
-abbrev pub bytes_of : {V R : Type 0} {kind : _} → Text V R kind → List ℕ
-bytes_of t = between t.from t.to (text_of (seen t.view) t.root)
+abbrev pub bytes_in : {V R : Type 0} {kind : _} → Text V R kind → List ℕ
+bytes_in t = between t.from t.to (text_of (seen t.view) t.root)
 
 -- the part a to b is not lawful: a ≤ b ≤ length does not hold
 abbrev pub bad_part : List ℕ → ℕ → ℕ → Bool
@@ -34,4 +34,4 @@ pub record IsSlice {V R : Type 0} {kind : _} (s : Text V R kind) (a b : ℕ) (t 
   pub root : t.root ≡ s.root
   pub from : t.from ≡ s.from + a
   pub to : t.to ≡ s.from + b
-  pub bytes : bytes_of t ≡ between a b (bytes_of s)
+  pub bytes : bytes_in t ≡ between a b (bytes_in s)

@@ -48,7 +48,7 @@ impl<'v, M: Monoid> Text<'v, M> {
     ghost use Rattle.monoid.specs.Monoid.{fold_of};
     ghost use Rattle.refusal.specs.Refusals.{Answers};
     ghost use Rattle.refusal.specs.Writing.{Writes, of_room};
-    ghost use Rattle.rope_read.specs.Texts.{bytes_of, of_bounds, of_place, IsSlice};
+    ghost use Rattle.rope_read.specs.Texts.{bytes_in, of_bounds, of_place, IsSlice};
 
     /// The first `len` bytes of the text at a root.
     pub(crate) fn front(view: RopeView<'v, M>, root: Root, len: u32) -> Text<'v, M>
@@ -78,14 +78,14 @@ impl<'v, M: Monoid> Text<'v, M> {
 
     /// How many bytes it has. Takes constant time.
     pub fn len(self) -> usize
-        ensures { result ≡ length (bytes_of self.entry) }
+        ensures { result ≡ length (bytes_in self.entry) }
     {
         (self.to - self.from) as usize
     }
 
     /// The part `a` to `b` of it. Refused with BAD PART exactly where a ≤ b ≤ length does not hold. Takes constant time.
     pub fn part(self, a: usize, b: usize) -> Result<Text<'v, M>, Refusal>
-        ensures { Answers (of_bounds (bytes_of self.entry) a b) (IsSlice self.entry a b) result }
+        ensures { Answers (of_bounds (bytes_in self.entry) a b) (IsSlice self.entry a b) result }
     {
         if a > b || b > self.len() {
             return Err(Refusal::BadPart);
@@ -101,7 +101,7 @@ impl<'v, M: Monoid> Text<'v, M> {
     /// The `n` bytes from the place `a` on. Refused with BAD PART exactly where it has not so many, also where a + n fits no
     /// number. Takes constant time.
     pub fn bytes(self, a: usize, n: usize) -> Result<Text<'v, M>, Refusal>
-        ensures { Answers (of_bounds (bytes_of self.entry) a (a + n)) (IsSlice self.entry a (a + n)) result }
+        ensures { Answers (of_bounds (bytes_in self.entry) a (a + n)) (IsSlice self.entry a (a + n)) result }
     {
         let end = a.checked_add(n).ok_or(Refusal::BadPart)?;
         self.part(a, end)
@@ -109,7 +109,7 @@ impl<'v, M: Monoid> Text<'v, M> {
 
     /// What stands before its part `a` to `b`, and what stands behind it. Refused as that part. Takes constant time.
     pub fn around(self, a: usize, b: usize) -> Result<(Text<'v, M>, Text<'v, M>), Refusal>
-        ensures { Answers (of_bounds (bytes_of self.entry) a b) (λ p. (bytes_of p.0 ≡ take a (bytes_of self.entry)) × (bytes_of p.1 ≡ drop b (bytes_of self.entry))) result }
+        ensures { Answers (of_bounds (bytes_in self.entry) a b) (λ p. (bytes_in p.0 ≡ take a (bytes_in self.entry)) × (bytes_in p.1 ≡ drop b (bytes_in self.entry))) result }
     {
         self.part(a, b)?;
         let (a, b) = (a as u32, b as u32);
@@ -131,7 +131,7 @@ impl<'v, M: Monoid> Text<'v, M> {
     /// Its byte at the place `at`. Refused with BAD PART exactly where `at` is not below its length. Takes time in the height
     /// of its tree.
     pub fn byte(self, at: usize) -> Result<u8, Refusal>
-        ensures { Answers (of_place (bytes_of self.entry) at) (λ b. b ≡ slice_index (bytes_of self.entry) at) result }
+        ensures { Answers (of_place (bytes_in self.entry) at) (λ b. b ≡ slice_index (bytes_in self.entry) at) result }
     {
         if at >= self.len() {
             return Err(Refusal::BadPart);
@@ -144,7 +144,7 @@ impl<'v, M: Monoid> Text<'v, M> {
 
     /// The fold of its bytes. Takes time in the height of its tree.
     pub fn summary(self) -> M
-        ensures { result ≡ fold_of M.Monoid.model (bytes_of self.entry) }
+        ensures { result ≡ fold_of M.Monoid.model (bytes_in self.entry) }
     {
         match self.root {
             None => M::empty(),
@@ -155,7 +155,7 @@ impl<'v, M: Monoid> Text<'v, M> {
     /// Writes it at the start of `out` and leaves what lies behind; answers its length. Refused with SMALL BUFFER,
     /// and `out` as it was, exactly where `out` is shorter. Takes time in its length and the height of its tree.
     pub fn copy(self, out: &mut [u8]) -> Result<usize, Refusal>
-        ensures { Writes (of_room (length (bytes_of self.entry)) (length out.old)) (bytes_of self.entry) out.old out.new result }
+        ensures { Writes (of_room (length (bytes_in self.entry)) (length out.old)) (bytes_in self.entry) out.old out.new result }
     {
         if out.len() < self.len() {
             return Err(Refusal::SmallBuffer);

@@ -1,5 +1,5 @@
 //! A whole text of a store, for reading.
-ghost use Rattle.std.specs.Prelude.{◌≡◌, ⊤, true, length};
+ghost use Rattle.std.specs.Prelude.{◌≡◌, ⊤, true, false, length, None};
 ghost use Rattle.refusal.specs.declared.limits.TheConstants.{MOST_TEXT};
 ghost use Rattle.rope.specs.Tree.{Fewest};
 ghost use Rattle.rope.specs.Arena.{rooted};
@@ -36,14 +36,18 @@ impl<'v, M: Monoid> Whole<'v, M> {
     ghost use Rattle.monoid.specs.Monoid.{fold_of};
     ghost use Rattle.rope.specs.Arena.{height_of, kept_of};
     ghost use Rattle.rope.specs.Memory.{seen};
-    ghost use Rattle.rope_read.specs.Texts.{bytes_of, whole_bytes};
+    ghost use Rattle.rope_read.specs.Texts.{bytes_in, whole_bytes};
 
-    /// The text at `root`. Inner: whoever brings a root answers for it.
+    /// The text at `root`. A root that is none of the records' counts as that of the empty text.
     pub fn new(view: RopeView<'v, M>, root: Root) -> Whole<'v, M>
-        requires { rooted (length view.records.now) root ≡ true }
-        ensures { (result.view ≡ view.entry) × (result.root ≡ root) }
+        ensures view { result.view ≡ view.entry }
+        ensures there { rooted (length view.entry.records.now) root ≡ true → result.root ≡ root }
+        ensures other { rooted (length view.entry.records.now) root ≡ false → result.root ≡ None }
     {
-        Whole { view, root }
+        match root {
+            Some(i) if (i as usize) < view.records_used() => Whole { view, root },
+            _ => Whole { view, root: None },
+        }
     }
 
     /// Where it lies, for an edit.
@@ -57,7 +61,7 @@ impl<'v, M: Monoid> Whole<'v, M> {
     pub fn text(self) -> Text<'v, M>
         ensures place { (result.view ≡ self.entry.view) × (result.root ≡ self.entry.root) }
         ensures bounds { (result.from ≡ 0) × (result.to ≡ length (whole_bytes self.entry)) }
-        ensures value { bytes_of result ≡ whole_bytes self.entry }
+        ensures value { bytes_in result ≡ whole_bytes self.entry }
     {
         Text::front(self.view, self.root, self.length())
     }

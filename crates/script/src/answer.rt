@@ -2,7 +2,7 @@
 ghost use Rattle.std.specs.Prelude.{◌≡◌, ◌+◌, ◌≤◌, ℕ, List, ◌++◌, length, decimal, codes};
 ghost use Rattle.refusal.specs.Writing.{Stands};
 ghost use Rattle.netstring.specs.Netstring.{netstring};
-ghost use Rattle.rope_read.specs.Texts.{bytes_of};
+ghost use Rattle.rope_read.specs.Texts.{bytes_in};
 ghost use Rattle.script.specs.Answers.{answer_text};
 ghost use Rattle.script.specs.declared.answer.TheConstants.{MOST_ANSWER};
 
@@ -36,9 +36,9 @@ pub(crate) fn append_number(n: u64, at: usize, out: &mut [u8]) -> usize
 
 /// Copies a text of a shelf behind the first `at` bytes of `out`, and tells the place behind it.
 pub(crate) fn append_text<'v, M: Monoid>(text: Text<'v, M>, at: usize, out: &mut [u8]) -> usize
-    requires { at + length (bytes_of text) ≤ length out.old }
-    ensures place { result ≡ at + length (bytes_of text.entry) }
-    ensures after { (was front : List ℕ) → Stands front was at out.old → Stands (front ++ bytes_of text.entry) was result out.new }
+    requires { at + length (bytes_in text) ≤ length out.old }
+    ensures place { result ≡ at + length (bytes_in text.entry) }
+    ensures after { (was front : List ℕ) → Stands front was at out.old → Stands (front ++ bytes_in text.entry) was result out.new }
 {
     at + text.copy(&mut out[at..]).unwrap()
 }

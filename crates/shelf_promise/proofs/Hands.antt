@@ -6,7 +6,7 @@ use Rattle.rope.specs.declared.record.Record.{Record}
 use Rattle.shelf_view.specs.declared.draft_id.DraftId.{DraftId}
 use Rattle.refusal.specs.declared.Refusal.{Refusal}
 use Rattle.refusal.specs.declared.Refusal.TheVariants.{NoDocument}
-use Rattle.text_shelf.specs.Shelves.{Fresh, parts, brought, told, strings}
+use Rattle.text_shelf.specs.Shelves.{Fresh, parts, brought, measures, strings}
 use Rattle.text_shelf.specs.Calls.{every_shelf, reason}
 use Rattle.text_shelf.specs.Reaches.{Reached, fresh, called, used_of}
 use Rattle.text_shelf.specs.Steps.{Stepped, Steps, made}
@@ -43,5 +43,5 @@ pub cut_refused : {V R : Type 0} {kind : _} (s t : Shelf V R kind) (r : Result �
 cut_refused s t r step =
     let few : length (strings (parts s)).texts ≤ 4294967295 = omega (arith, count_texts (parts s), s.places.few) in
     let beyond : leb (length (strings (parts s)).texts) 4294967295 ≡ true = grind (arith, nat_tests) in
-    by_reason s t r (reason (brought (parts s)) (told (parts s)) (strings (parts s)) (Cut 4294967295 0 0)) (rw beyond)
+    by_reason s t r (reason (brought (parts s)) (measures (parts s)) (strings (parts s)) (Cut 4294967295 0 0)) (rw beyond)
     step

@@ -8,14 +8,14 @@ use Rattle.rope.specs.Memory.{arena_of}
 use Rattle.rope.specs.declared.record.Record.{Record}
 use Rattle.shelf_view.specs.State.{State, text_at}
 use Rattle.refusal.specs.declared.Refusal.{Refusal}
-use Rattle.text_shelf.specs.Shelves.{Brought, Fresh, parts, shelved, brought, told, strings}
+use Rattle.text_shelf.specs.Shelves.{Brought, Fresh, parts, shelved, brought, measures, strings}
 use Rattle.text_shelf.specs.Rules.{Rules, refusal, next}
 use Rattle.text_shelf.specs.Reaches.{Reached, fresh, called, used_of}
 use Rattle.text_shelf.specs.Steps.{Stepped, StepsBy}
 use Rattle.text_shelf.specs.declared.call.Answer.{Answer}
 use Rattle.text_shelf.specs.declared.shelf.Shelf.{Shelf}
-use Rattle.shelf_promise.specs.Lists.{nothing, after, answered, Grown, Goes, Answers, Each, Kept}
-use Rattle.shelf_promise.specs.Promises.{Tells}
+use Rattle.shelf_promise.specs.Lists.{nothing, after, answered, Grown, Goes, OneCall, Each, Kept}
+use Rattle.shelf_promise.specs.Promises.{HoldsAfter}
 use Rattle.shelf_promise.proofs.Keeping.{documents_fold}
 
 after_push : {C : Type 0} (r : Rules C) (build : List ℕ) (s : State) (cs : List C) (xs : List (Result Answer Refusal)) (c : C) (a : Result Answer Refusal) → length cs ≡ length xs
@@ -34,20 +34,20 @@ pub record Going {C : Type 0} (r : Rules C) {V R : Type 0} {kind : _} (b : Broug
 -- what one call more gives: the shelf t after it, its answer, and how heights and records used go on
 pub record Further {C : Type 0} (r : Rules C) {V R : Type 0} {kind : _} (b : Brought) (cs : List C) (xs : List (Result Answer Refusal)) (s t : Shelf V R kind) (c : C) (a : Result Answer Refusal) : Type 0 where
   pub going : Going r b (cs ++ (c ∷ [])) (xs ++ (a ∷ [])) t
-  pub step : Answers r b (after r b.build nothing cs xs) (told (parts s)) c a (told (parts t))
+  pub step : OneCall r b (after r b.build nothing cs xs) (measures (parts s)) c a (measures (parts t))
 
 module _ {C : Type 0} (r : Rules C) {V R : Type 0} {kind : _} (b : Brought) (cs : List C) (xs : List (Result Answer Refusal)) (s t : Shelf V R kind) (c : C) (a : Result Answer Refusal) (g : Going r b cs xs s) where
   lengths : length (cs ++ (c ∷ [])) ≡ length (xs ++ (a ∷ []))
   lengths = length-append cs (c ∷ []) ∙ ap (λ n. n + 1) g.long ∙ sym (length-append xs (a ∷ []))
 
-  reason_there : refusal r (brought (parts s)) (told (parts s)) (strings (parts s)) c ≡ refusal r b (told (parts s)) (after r b.build nothing cs xs) c
-  reason_there = λ i. refusal r (g.memory i) (told (parts s)) (g.state i) c
+  reason_there : refusal r (brought (parts s)) (measures (parts s)) (strings (parts s)) c ≡ refusal r b (measures (parts s)) (after r b.build nothing cs xs) c
+  reason_there = λ i. refusal r (g.memory i) (measures (parts s)) (g.state i) c
 
   -- by the reason to refuse it
-  by_reason : (w : Option Refusal) → refusal r b (told (parts s)) (after r b.build nothing cs xs) c ≡ w → Stepped r w s c a t → Further r b cs xs s t c a
+  by_reason : (w : Option Refusal) → refusal r b (measures (parts s)) (after r b.build nothing cs xs) c ≡ w → Stepped r w s c a t → Further r b cs xs s t c a
   by_reason (Some e) why step =
       let stays : is_ok a ≡ false = ap is_ok step.0 in
-      let same : told (parts t) ≡ told (parts s) = ap (λ z. told (parts z)) step.1 in
+      let same : measures (parts t) ≡ measures (parts s) = ap (λ z. measures (parts z)) step.1 in
       record {
         going = record {
           memory = ap (λ z. brought (parts z)) step.1 ∙ g.memory;
@@ -58,13 +58,13 @@ module _ {C : Type 0} (r : Rules C) {V R : Type 0} {kind : _} (b : Brought) (cs 
         };
         step = record {
           answer = step.0 ∙ ap (λ w. answered w (r.answer b.mark (after r b.build nothing cs xs) c)) (sym why);
-          goes = subst (λ k. Goes r k c (after r b.build nothing cs xs) (told (parts s)) (told (parts t))) (sym stays) same;
+          goes = subst (λ k. Goes r k c (after r b.build nothing cs xs) (measures (parts s)) (measures (parts t))) (sym stays) same;
         };
       }
   by_reason None why step =
       let changed = step.2.0 in
       let taken : is_ok a ≡ true = ap is_ok step.0 in
-      let grown : Grown r c (after r b.build nothing cs xs) (told (parts s)) (told (parts t)) =
+      let grown : Grown r c (after r b.build nothing cs xs) (measures (parts s)) (measures (parts t)) =
       record {
         more = changed.records.more;
         cost = changed.cost;
@@ -81,12 +81,12 @@ module _ {C : Type 0} (r : Rules C) {V R : Type 0} {kind : _} (b : Brought) (cs 
         };
         step = record {
           answer = step.0 ∙ (λ i. Ok (r.answer ((g.memory i).mark) (g.state i) c)) ∙ ap (λ w. answered w (r.answer b.mark (after r b.build nothing cs xs) c)) (sym why);
-          goes = subst (λ k. Goes r k c (after r b.build nothing cs xs) (told (parts s)) (told (parts t))) (sym taken) grown;
+          goes = subst (λ k. Goes r k c (after r b.build nothing cs xs) (measures (parts s)) (measures (parts t))) (sym taken) grown;
         };
       }
 
   pub further : StepsBy r s c a t → Further r b cs xs s t c a
-  further step = by_reason (refusal r b (told (parts s)) (after r b.build nothing cs xs) c) refl (subst (λ w. Stepped r w s c a t) reason_there step)
+  further step = by_reason (refusal r b (measures (parts s)) (after r b.build nothing cs xs) c) refl (subst (λ w. Stepped r w s c a t) reason_there step)
 
 -- a fresh shelf
 module _ {V R : Type 0} {kind : _} (s : Shelf V R kind) (build added : List ℕ) (records : List (Record R)) (places : List Root) (mark : ℕ)
@@ -130,5 +130,5 @@ kept m l {s = s} h w =
     }
 
 -- what is told of its list of strings
-pub tells : {C : Type 0} (r : Rules C) {V R : Type 0} {kind : _} (s : Shelf V R kind) (P : State → Type 0) → P (strings (parts s)) → Tells r s P
+pub tells : {C : Type 0} (r : Rules C) {V R : Type 0} {kind : _} (s : Shelf V R kind) (P : State → Type 0) → P (strings (parts s)) → HoldsAfter r s P
 tells r s P p b cs xs h = subst P (goings h).state p

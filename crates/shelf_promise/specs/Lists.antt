@@ -3,7 +3,7 @@ use Rattle.std.specs.Prelude.{◌≡◌, ℕ, ◌+◌, ◌<◌, ◌≤◌, true,
 use Rattle.monoid.specs.Monoid.{Model, fold_of}
 use Rattle.shelf_view.specs.State.{State, text_at, kept_values}
 use Rattle.refusal.specs.declared.Refusal.{Refusal}
-use Rattle.text_shelf.specs.Shelves.{Brought, Told, parts, shelved, brought, told, strings}
+use Rattle.text_shelf.specs.Shelves.{Brought, Measures, parts, shelved, brought, measures, strings}
 use Rattle.text_shelf.specs.Rules.{Rules, refusal, next}
 use Rattle.text_shelf.specs.Reaches.{Reached, fresh, called}
 use Rattle.text_shelf.specs.declared.call.Answer.{Answer}
@@ -27,19 +27,19 @@ answered None a = Ok a
 -- how heights and records used go on from t to u over a call: a refused one changes nothing; after an accepted one no record
 -- is given back, at most those of its need are taken, every document that was there keeps its height, and the draft's height
 -- is as the rules say
-pub record Grown {C : Type 0} (r : Rules C) (c : C) (s : State) (t u : Told) : Type 0 where
+pub record Grown {C : Type 0} (r : Rules C) (c : C) (s : State) (t u : Measures) : Type 0 where
   pub more : t.used ≤ u.used
   pub cost : u.used ≤ t.used + r.need t c
   pub heights : (d : ℕ) → d < length s.texts → slice_index u.heights d ≡ slice_index t.heights d
   pub draft : r.draft_height c t.draft u.draft
 
-abbrev pub Goes : {C : Type 0} → Rules C → Bool → C → State → Told → Told → Type 0
+abbrev pub Goes : {C : Type 0} → Rules C → Bool → C → State → Measures → Measures → Type 0
 Goes r true c s t u = Grown r c s t u
 Goes r false c s t u = u ≡ t
 
 -- the call c, made where the list of strings is z and the shelf tells t: it is refused exactly where a numbered reason holds,
 -- with the first that does, and otherwise answers what the list of strings says
-pub record Answers {C : Type 0} (r : Rules C) (b : Brought) (z : State) (t : Told) (c : C) (a : Result Answer Refusal) (u : Told) : Type 0 where
+pub record OneCall {C : Type 0} (r : Rules C) (b : Brought) (z : State) (t : Measures) (c : C) (a : Result Answer Refusal) (u : Measures) : Type 0 where
   pub answer : a ≡ answered (refusal r b t z c) (r.answer b.mark z c)
   pub goes : Goes r (is_ok a) c z t u
 
@@ -48,7 +48,7 @@ abbrev pub Each : {C : Type 0} {r : Rules C} {V R : Type 0} {kind : _} {b : Brou
     → Reached r b calls answers s → Type 0
 Each (fresh f is) = Unit {0}
 Each {r = r} {b = b} {s = s} (called {cs = cs} {xs = xs} {s = t} before c a step) =
-    Each before × Answers r b (after r b.build nothing cs xs) (told (parts t)) c a (told (parts s))
+    Each before × OneCall r b (after r b.build nothing cs xs) (measures (parts t)) c a (measures (parts s))
 
 -- what is promised of the list by which a shelf was reached
 pub record Kept {C : Type 0} {r : Rules C} {V R : Type 0} {kind : _} (m : Model V R) {b : Brought} {calls : List C} {answers : List (Result Answer Refusal)} {s : Shelf V R kind}

@@ -21,16 +21,16 @@ use Rattle.text_shelf.specs.declared.call.Answer.{Answer}
 use Rattle.text_shelf.specs.declared.shelf.Shelf.{Shelf}
 use Rattle.shelf_promise.specs.Lists.{after, nothing, Kept}
 use Rattle.shelf_promise.specs.declared.promise.Asked.{Asked}
-use Rattle.shelf_promise.specs.declared.promise.Told.{Told}
+use Rattle.shelf_promise.specs.declared.promise.Replies.{Replies}
 
 -- P holds of what the list of strings makes of any list of calls by which the shelf was reached
-abbrev pub Tells : {C : Type 0} → Rules C → {V R : Type 0} {kind : _} → Shelf V R kind → (State → Type 0) → Type 0
-Tells {C} r shelf P =
+abbrev pub HoldsAfter : {C : Type 0} → Rules C → {V R : Type 0} {kind : _} → Shelf V R kind → (State → Type 0) → Type 0
+HoldsAfter {C} r shelf P =
     (b : Brought) (calls : List C) (answers : List (Result Answer Refusal)) → Reached r b calls answers shelf → P (after r b.build nothing calls answers)
 
 -- and all that is promised of that list
-abbrev pub Keeps : {C : Type 0} → Rules C → {V R : Type 0} {kind : _} → Model V R → Shelf V R kind → (State → Type 0) → Type 0
-Keeps {C} r m shelf P =
+abbrev pub KeptAfter : {C : Type 0} → Rules C → {V R : Type 0} {kind : _} → Model V R → Shelf V R kind → (State → Type 0) → Type 0
+KeptAfter {C} r m shelf P =
     (b : Brought) (calls : List C) (answers : List (Result Answer Refusal)) (h : Reached r b calls answers shelf) → Kept m h × P (after r b.build nothing calls answers)
 
 -- the summary told of a document is the fold of its bytes
@@ -60,10 +60,10 @@ WindowTold d a b digits old new r s = ReadsBack (of_copy s d a b 5 (length old))
 pub record Promise {V R : Type 0} {kind : _} (m : Model V R) (shelf : Shelf V R kind)
     {marks : _} (one : Shelf (Pair Sl2 LineColumn) (Pair Entries LineColumn) marks)
     {others : _} (other : Shelf (Pair Sl2 LineColumn) (Pair Entries LineColumn) others)
-    (q : Asked) (digits old new : List ℕ) (told : Told V) : Type 0 where
-  pub summaries : Keeps every_shelf m shelf (λ s.
-      DocumentFolds m q.part.document told.summary s × PartFolds m q.part.document q.part.from q.part.to told.part s)
-  pub slips : Keeps every_shelf marked one (λ s. Keeps every_shelf marked other (λ t.
-      SlipsTold q.window.document q.other told.fingerprints s t))
-  pub window : Keeps every_shelf marked one (λ s.
-      WindowTold q.window.document q.window.from q.window.to digits old new told.window s)
+    (q : Asked) (digits old new : List ℕ) (replies : Replies V) : Type 0 where
+  pub summaries : KeptAfter every_shelf m shelf (λ s.
+      DocumentFolds m q.part.document replies.summary s × PartFolds m q.part.document q.part.from q.part.to replies.part s)
+  pub slips : KeptAfter every_shelf marked one (λ s. KeptAfter every_shelf marked other (λ t.
+      SlipsTold q.window.document q.other replies.fingerprints s t))
+  pub window : KeptAfter every_shelf marked one (λ s.
+      WindowTold q.window.document q.window.from q.window.to digits old new replies.window s)

@@ -10,7 +10,7 @@ use zemor::matrix::Sl2;
 
 /// A part of a document.
 #[derive(Clone, Copy)]
-pub struct Place {
+pub struct DocumentPart {
     pub document: u32,
     pub from: usize,
     pub to: usize,
@@ -20,16 +20,16 @@ pub struct Place {
 #[derive(Clone, Copy)]
 pub struct Asked {
     /// A document of the shelf over any monoid, and a part of it.
-    pub part: Place,
+    pub part: DocumentPart,
     /// A document of the one marked shelf, and the part of it that a window is to replace.
-    pub window: Place,
+    pub window: DocumentPart,
     /// A document of the other marked shelf.
     pub other: u32,
 }
 
 /// What is told.
 #[derive(Clone, Copy)]
-pub struct Told<M> {
+pub struct Replies<M> {
     /// The summary of the document, and of its part.
     pub summary: Result<M, Refusal>,
     pub part: Result<M, Refusal>,
@@ -49,7 +49,7 @@ pub fn ask<'b, 'a, 'c, 'd, 'e, 'f, M: Monoid>(
     asked: Asked,
     fingerprint: &[u8],
     out: &mut [u8],
-) -> Told<M>
+) -> Replies<M>
     ensures { Promise M.Monoid.model shelf.now one.now other.now asked fingerprint.now out.old out.new result }
 {
     let Asked {
@@ -57,7 +57,7 @@ pub fn ask<'b, 'a, 'c, 'd, 'e, 'f, M: Monoid>(
         window,
         other: e,
     } = asked;
-    Told {
+    Replies {
         summary: told::summary(shelf, part.document),
         part: told::part_summary(shelf, part.document, part.from, part.to),
         fingerprints: told::fingerprints(one, window.document, other, e),

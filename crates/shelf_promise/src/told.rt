@@ -1,7 +1,7 @@
 //! What is told of shelves that any lists of calls have reached: each call asks the shelf's view.
 ghost use Rattle.std.specs.Prelude.{⊤};
 ghost use Rattle.text_shelf.specs.Calls.{every_shelf};
-ghost use Rattle.shelf_promise.specs.Promises.{Tells, Keeps, DocumentFolds, PartFolds, SlipsTold, WindowTold};
+ghost use Rattle.shelf_promise.specs.Promises.{HoldsAfter, KeptAfter, DocumentFolds, PartFolds, SlipsTold, WindowTold};
 
 use monoid::Monoid;
 use refusal::Refusal;
@@ -12,12 +12,12 @@ use zemor::matrix::Sl2;
 /// What is promised of every list of calls by which a shelf was reached. It does nothing: who has made the calls one by one
 /// holds the promise.
 pub fn calls<'b, 'a, M: Monoid>(_shelf: &Shelf<'b, 'a, M>)
-    ensures { Keeps every_shelf M.Monoid.model _shelf.now (λ s. ⊤) }
+    ensures { KeptAfter every_shelf M.Monoid.model _shelf.now (λ s. ⊤) }
 {}
 
 /// The summary of document `d`. Refused with NO DOCUMENT. Takes constant time.
 pub fn summary<'b, 'a, M: Monoid>(shelf: &Shelf<'b, 'a, M>, d: u32) -> Result<M, Refusal>
-    ensures { Tells every_shelf shelf.now (DocumentFolds M.Monoid.model d result) }
+    ensures { HoldsAfter every_shelf shelf.now (DocumentFolds M.Monoid.model d result) }
 {
     Ok(shelf.view().document(d)?.summary())
 }
@@ -30,7 +30,7 @@ pub fn part_summary<'b, 'a, M: Monoid>(
     a: usize,
     b: usize,
 ) -> Result<M, Refusal>
-    ensures { Tells every_shelf shelf.now (PartFolds M.Monoid.model d a b result) }
+    ensures { HoldsAfter every_shelf shelf.now (PartFolds M.Monoid.model d a b result) }
 {
     shelf.view().part_summary(d, a, b)
 }
@@ -43,7 +43,7 @@ pub fn fingerprints<'b, 'a, 'c, 'd>(
     other: &MarkedShelf<'c, 'd>,
     e: u32,
 ) -> Result<(Sl2, Sl2), Refusal>
-    ensures { Tells every_shelf one.now (λ s. Tells every_shelf other.now (SlipsTold d e result s)) }
+    ensures { HoldsAfter every_shelf one.now (λ s. HoldsAfter every_shelf other.now (SlipsTold d e result s)) }
 {
     let x = summary(one, d)?;
     let y = summary(other, e)?;
@@ -60,7 +60,7 @@ pub fn read_back<'b, 'a>(
     fingerprint: &[u8],
     out: &mut [u8],
 ) -> Result<usize, Refusal>
-    ensures { Tells every_shelf shelf.now (WindowTold d a b fingerprint.now out.old out.new result) }
+    ensures { HoldsAfter every_shelf shelf.now (WindowTold d a b fingerprint.now out.old out.new result) }
 {
     shelf.view().read_back(d, a, b, fingerprint, out)
 }

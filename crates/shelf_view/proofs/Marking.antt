@@ -17,7 +17,7 @@ use Rattle.zemor.proofs.Texts.{slips_show, length_text_bits}
 use Rattle.rope.specs.Tree.{Tree, leaf, node, text, lawful}
 use Rattle.rope.specs.Arena.{Arena, Root, Sound, tree_at, text_of, rooted}
 use Rattle.rope.specs.Memory.{seen}
-use Rattle.rope_read.specs.Texts.{bytes_of}
+use Rattle.rope_read.specs.Texts.{bytes_in}
 use Rattle.rope_read.specs.declared.text.Text.{Text}
 use Rattle.rope.proofs.Readings.{leaf_facts, node_facts, lawful_at}
 use Rattle.shelf_view.specs.Documents.{fine}
@@ -60,18 +60,18 @@ pub first_half : (t : List ℕ) (v : Pair Sl2 LineColumn) → v ≡ fold_of mark
 first_half t v is = let first : Pair Sl2 LineColumn → Sl2 = λ q. q.first in ap first (is ∙ fold_pair sl2 line_column_model t)
 
 -- every byte of a slice is below 256
-pub slice_bytes : {V R : Type 0} {kind : _} (t : Text V R kind) → all_bytes (bytes_of t) ≡ true
+pub slice_bytes : {V R : Type 0} {kind : _} (t : Text V R kind) → all_bytes (bytes_in t) ≡ true
 slice_bytes t =
     let xs = text_of (seen t.view) t.root in
     all_bytes_take (t.to - t.from) (drop t.from xs) (all_bytes_drop t.from xs (rooted_bytes (seen t.view) t.root t.view.sound t.inside))
 
 -- slices of at most five bytes with one fingerprint are equal
-pub slices_equal : {V R : Type 0} {kind : _} (one other : Text V R kind) → length (bytes_of one) ≤ 5 → length (bytes_of other) ≤ 5 → fingerprint (bytes_of one) ≡ fingerprint (bytes_of other)
-    → bytes_of one ≡ bytes_of other
-slices_equal one other h k same = short_equal (bytes_of one) (bytes_of other) (slice_bytes one) (slice_bytes other) h k same
+pub slices_equal : {V R : Type 0} {kind : _} (one other : Text V R kind) → length (bytes_in one) ≤ 5 → length (bytes_in other) ≤ 5 → fingerprint (bytes_in one) ≡ fingerprint (bytes_in other)
+    → bytes_in one ≡ bytes_in other
+slices_equal one other h k same = short_equal (bytes_in one) (bytes_in other) (slice_bytes one) (slice_bytes other) h k same
 
 -- the n bytes from a of a text are n
-pub stretch_long : {V R : Type 0} {kind : _} (text : List ℕ) (t : Text V R kind) (a n : ℕ) → of_bounds text a (a + n) ≡ None → bytes_of t ≡ between a (a + n) text → length (bytes_of t) ≡ n
+pub stretch_long : {V R : Type 0} {kind : _} (text : List ℕ) (t : Text V R kind) (a n : ℕ) → of_bounds text a (a + n) ≡ None → bytes_in t ≡ between a (a + n) text → length (bytes_in t) ≡ n
 stretch_long text t a n none is = omega (arith, ap length is, length-between text a (a + n) (bounds_lawful text a (a + n) none).1)
 
 -- where both documents are there, and both parts lawful, nothing is refused

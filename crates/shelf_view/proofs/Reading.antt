@@ -17,12 +17,12 @@ use Rattle.zemor.specs.Laws.{lawful}
 use Rattle.zemor.proofs.Writing.{hex_back}
 use Rattle.refusal.specs.Writing.{Writes, of_room}
 use Rattle.refusal.proofs.Room.{long_enough}
-use Rattle.rope_read.specs.Texts.{bytes_of, bad_part, of_bounds}
+use Rattle.rope_read.specs.Texts.{bytes_in, bad_part, of_bounds}
 use Rattle.rope_read.specs.declared.text.Text.{Text}
 use Rattle.refusal.proofs.Firsts.{passed, first_not}
 use Rattle.shelf_view.specs.Questions.{of_document, of_part}
 use Rattle.shelf_view.specs.State.{State, Shelved, state_of, text_at, unknown}
-use Rattle.shelf_view.specs.Marked.{marked, fingerprint, written, in_part, in_between, Gives, earlier, misshapen, none_gives, ReadsBack, of_buffer}
+use Rattle.shelf_view.specs.Marked.{marked, fingerprint, written, in_part, in_between, GivesDigits, earlier, misshapen, none_gives, ReadsBack, of_buffer}
 use Rattle.refusal.specs.declared.Refusal.{Refusal}
 use Rattle.refusal.specs.declared.Refusal.TheVariants.{NoDocument, BadPart, SmallBuffer}
 use Rattle.shelf_view.proofs.Marking.{first_half}
@@ -40,10 +40,10 @@ part_between text a b front back ef eb =
     λ i w. (ap (λ f. in_between f back w) ef ∙ ap (λ v. in_between (fingerprint (take a text)) v w) eb ∙ sym (three (take a text) w (drop b text))) i
 
 module _ (digits : List ℕ) (x front back : Sl2) (is : written x ≡ digits) where
-  by_value : (w : List ℕ) → Gives (in_between front back) digits w → window.Gives front back x w
+  by_value : (w : List ℕ) → GivesDigits (in_between front back) digits w → window.Gives front back x w
   by_value w g = record { short = g.short; whole = written_back _ x (g.same ∙ sym is) }
 
-  by_digits : (w : List ℕ) → window.Gives front back x w → Gives (in_between front back) digits w
+  by_digits : (w : List ℕ) → window.Gives front back x w → GivesDigits (in_between front back) digits w
   by_digits w g = record { short = g.short; same = ap written g.whole ∙ is }
 
 module _ (old digits : List ℕ) (front back : Sl2) where
@@ -87,13 +87,13 @@ module _ (old digits : List ℕ) (front back : Sl2) where
 -- what a marked shelf's document is read back from
 module _ {R : Type 0} {kind : _} (s : Shelved R) (d a b : ℕ) (text : List ℕ) (is : text ≡ text_at (state_of s) d)
     (before behind : Text (Pair Sl2 LineColumn) (Pair Entries LineColumn) kind) (v w : Pair Sl2 LineColumn)
-    (ev : v ≡ fold_of marked (bytes_of before)) (ew : w ≡ fold_of marked (bytes_of behind))
-    (eb : bytes_of before ≡ take a text) (ec : bytes_of behind ≡ drop b text) where
+    (ev : v ≡ fold_of marked (bytes_in before)) (ew : w ≡ fold_of marked (bytes_in behind))
+    (eb : bytes_in before ≡ take a text) (ec : bytes_in behind ≡ drop b text) where
   pub around_part : in_between v.first w.first ≡ in_part (text_at (state_of s) d) a b
   around_part =
       part_between (text_at (state_of s) d) a b v.first w.first
-      (first_half (bytes_of before) v ev ∙ ap fingerprint (eb ∙ ap (take a) is))
-      (first_half (bytes_of behind) w ew ∙ ap fingerprint (ec ∙ ap (drop b) is))
+      (first_half (bytes_in before) v ev ∙ ap fingerprint (eb ∙ ap (take a) is))
+      (first_half (bytes_in behind) w ew ∙ ap fingerprint (ec ∙ ap (drop b) is))
 
 -- where the document is there, its text decides on the part
 pub part_is : (s : State) (d a b : ℕ) (text : List ℕ) → text ≡ text_at s d → of_document s d ≡ None → of_part s d a b ≡ of_bounds text a b

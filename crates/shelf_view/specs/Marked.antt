@@ -6,7 +6,7 @@ use Rattle.monoid.specs.Pair.{pair_model}
 use Rattle.monoid.specs.declared.line_column.LineColumn.{LineColumn}
 use Rattle.monoid.specs.declared.pair.Pair.{Pair}
 use Rattle.zemor.specs.Values.{sl2, row}
-use Rattle.zemor.specs.Windows.{Short}
+use Rattle.zemor.specs.Windows.{AtMostFive}
 use Rattle.zemor.specs.Written.{hex, bytes_of, WellFormed}
 use Rattle.zemor.specs.declared.matrix.Entries.{Entries}
 use Rattle.zemor.specs.declared.matrix.Sl2.{Sl2}
@@ -41,22 +41,22 @@ abbrev pub in_between : Sl2 → Sl2 → List ℕ → Sl2
 in_between front back w = sl2.joined front (sl2.joined (fingerprint w) back)
 
 -- the window w gives this fingerprint
-pub record Gives (whole : List ℕ → Sl2) (digits w : List ℕ) : Type 0 where
-  pub short : Short w
+pub record GivesDigits (whole : List ℕ → Sl2) (digits w : List ℕ) : Type 0 where
+  pub short : AtMostFive w
   pub same : written (whole w) ≡ digits
 
 -- why read-back is refused: for an earlier reason, since the fingerprint is not well formed, or since no window gives it
 pub data Unread (why : Option Refusal) (whole : List ℕ → Sl2) (digits : List ℕ) : Refusal → Type 0 where
   earlier : {e : Refusal} → why ≡ Some e → Unread why whole digits e
   misshapen : why ≡ None → ¬ (WellFormed digits) → Unread why whole digits BadFingerprint
-  none_gives : why ≡ None → WellFormed digits → ((w : List ℕ) → Gives whole digits w → ⊥) → Unread why whole digits NoWindow
+  none_gives : why ≡ None → WellFormed digits → ((w : List ℕ) → GivesDigits whole digits w → ⊥) → Unread why whole digits NoWindow
 
 -- the one window that gives the fingerprint stands at the buffer's start, and its length is answered; what lies behind
 -- keeps its bytes, and a refusal leaves the buffer as it was
 abbrev pub ReadsBack : Option Refusal → (List ℕ → Sl2) → List ℕ → List ℕ → List ℕ → Result ℕ Refusal → Type 0
 ReadsBack why whole digits old new (Ok n) =
     (why ≡ None) × WellFormed digits
-    × ((w : List ℕ) × (Gives whole digits w × ((v : List ℕ) → Gives whole digits v → v ≡ w) × (n ≡ length w) × (new ≡ w ++ drop n old)))
+    × ((w : List ℕ) × (GivesDigits whole digits w × ((v : List ℕ) → GivesDigits whole digits v → v ≡ w) × (n ≡ length w) × (new ≡ w ++ drop n old)))
 ReadsBack why whole digits old new (Err e) = Unread why whole digits e × (new ≡ old)
 
 -- why a window is not written, where the buffer has n bytes

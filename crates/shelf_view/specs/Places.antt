@@ -4,7 +4,7 @@ use Rattle.std.specs.List.{between}
 use Rattle.monoid.specs.Monoid.{Model}
 use Rattle.rope.specs.Arena.{Root, text_of, height_of, kept_of}
 use Rattle.rope.specs.Memory.{seen}
-use Rattle.rope_read.specs.Texts.{bytes_of}
+use Rattle.rope_read.specs.Texts.{bytes_in}
 use Rattle.rope_read.specs.declared.text.Text.{Text}
 use Rattle.rope_read.specs.declared.whole.Whole.{Whole}
 use Rattle.shelf_view.specs.Documents.{fine, root_in}
@@ -35,4 +35,4 @@ pub record IsDraft {V R : Type 0} {kind : _} (m : Model V R) (s : Shelved R) (w 
 
 -- t is the part a to b of document d
 pub record IsPart {V R : Type 0} {kind : _} (s : Shelved R) (d a b : ℕ) (t : Text V R kind) : Type 0 where
-  pub text_is : bytes_of t ≡ between a b (text_at (state_of s) d)
+  pub text_is : bytes_in t ≡ between a b (text_at (state_of s) d)

@@ -16,7 +16,7 @@ use Rattle.shelf_view.specs.Documents.{fine, all_fine, root_in}
 use Rattle.shelf_view.specs.State.{State, text_at}
 use Rattle.refusal.proofs.Firsts.{first_none}
 use Rattle.rope.specs.Held.{held, Gains}
-use Rattle.text_shelf.specs.Shelves.{Parts, parts, Brought, brought, Told, told, strings}
+use Rattle.text_shelf.specs.Shelves.{Parts, parts, Brought, brought, Measures, measures, strings}
 use Rattle.text_shelf.specs.Calls.{appended, accepted, answer, need, brings, DraftHeight, reason, reasons, numbers_spent}
 use Rattle.text_shelf.specs.Steps.{Changed, Steps}
 use Rattle.text_shelf.specs.declared.call.Call.{Call}
@@ -124,7 +124,7 @@ pub record Appends {V R : Type 0} {kind : _} (s t : Parts V R kind) (text bs : L
   pub firm : Firm t
   pub strings_are : strings t ≡ appended (strings s) text (length bs)
   pub changed : Changed s t bs n
-  pub draft : (told t).draft ≡ (told s).draft
+  pub draft : (measures t).draft ≡ (measures s).draft
 
 pub append : {V R : Type 0} {kind : _} (s : Shelf V R kind) (store : Store V R kind) (bs : List ℕ) (n : ℕ) → Grows s.store store bs n
     → (places : Lent Root MOST_PLACES) (root : Root) (text : List ℕ) → Gains s.places places (root ∷ []) → rooted store.records.used root ≡ true → text_of (arena_of store) root ≡ text
@@ -142,15 +142,15 @@ append s store bs n g places root text p r is fits =
 
 -- an accepted call that appends a document
 pub appended_step : {V R : Type 0} {kind : _} (s t : Shelf V R kind) (call : Call) (k : ℕ) (text : List ℕ)
-    → reason (brought (parts s)) (told (parts s)) (strings (parts s)) call ≡ None → k ≡ s.places.used + 1
+    → reason (brought (parts s)) (measures (parts s)) (strings (parts s)) call ≡ None → k ≡ s.places.used + 1
     → answer s.mark (strings (parts s)) call ≡ Made (length (strings (parts s)).texts)
     → accepted s.store.build.now call (strings (parts s)) ≡ appended (strings (parts s)) text (length (brings call))
     → ((h j : ℕ) → j ≡ h → DraftHeight call h j)
-    → Appends (parts s) (parts t) text (brings call) (need (told (parts s)) call) → Steps s call (Ok (Made k)) t
+    → Appends (parts s) (parts t) text (brings call) (need (measures (parts s)) call) → Steps s call (Ok (Made k)) t
 appended_step s t call k text none n answers makes leaves a =
     rw none (ap Ok (ap Made (n ∙ sym (count_texts (parts s))) ∙ sym answers), a.strings_are ∙ sym makes, (a.changed, leaves _ _ a.draft))
 
-module _ (b : Brought) (t : Told) (s : State) where
+module _ (b : Brought) (t : Measures) (s : State) where
   pub put_fits : (text : Bor (List ℕ)) → reason b t s (Put text) ≡ None → Fits b s text.now
   put_fits text h = let p = first_none (reasons b t s (Put text)) h in record { short = omega (arith, ltb-false _ _ p.0); free = p.1.1.1.0 }
 

@@ -18,7 +18,7 @@ use Rattle.shelf_view.specs.Places.{Drafts}
 use Rattle.shelf_view.specs.declared.draft_id.DraftId.{DraftId}
 use Rattle.refusal.proofs.Firsts.{first_none, first_not}
 use Rattle.rope.specs.Held.{held, Gains}
-use Rattle.text_shelf.specs.Shelves.{Parts, parts, shelved, brought, told, strings}
+use Rattle.text_shelf.specs.Shelves.{Parts, parts, shelved, brought, measures, strings}
 use Rattle.text_shelf.specs.Calls.{with_draft, accepted, need, DraftHeight, reason, reasons}
 use Rattle.text_shelf.specs.Steps.{Changed, Steps}
 use Rattle.text_shelf.specs.declared.call.Call.TheVariants.{Open, Add, Seal}
@@ -41,14 +41,14 @@ still s d o = record {
   heights = λ k h. refl;
 }
 
-pub open_step : {V R : Type 0} {kind : _} (s t : Shelf V R kind) → reason (brought (parts s)) (told (parts s)) (strings (parts s)) Open ≡ None
+pub open_step : {V R : Type 0} {kind : _} (s t : Shelf V R kind) → reason (brought (parts s)) (measures (parts s)) (strings (parts s)) Open ≡ None
     → parts t ≡ record { store = s.store; places = s.places; draft = Some None; mark = s.mark; opened = s.opened + 1 }
     → Steps s Open (Ok (Opened (record { mark = s.mark; count = s.opened + 1 }))) t
 open_step s t none is =
-    rw none (refl, ap strings is, (subst (λ p. Changed (parts s) p [] 0) (sym is) (still (parts s) (Some None) (s.opened + 1)), ap (λ p. (told p).draft) is))
+    rw none (refl, ap strings is, (subst (λ p. Changed (parts s) p [] 0) (sym is) (still (parts s) (Some None) (s.opened + 1)), ap (λ p. (measures p).draft) is))
 
 module _ {V R : Type 0} {kind : _} (m : Model V R) (s : Shelf V R kind) (d : DraftId) (text : Bor (List ℕ)) (p root : Root) (store : Store V R kind)
-    (none : reason (brought (parts s)) (told (parts s)) (strings (parts s)) (Add d text) ≡ None) (drafts : Drafts m (shelved (parts s)) p)
+    (none : reason (brought (parts s)) (measures (parts s)) (strings (parts s)) (Add d text) ≡ None) (drafts : Drafts m (shelved (parts s)) p)
     (g : Grows s.store store text.now (add_need (height_in s.store p) (length text.now)))
     (r : rooted store.records.used root ≡ true) (is : text_in store root ≡ text_in s.store p ++ text.now)
     (up : (height_in s.store p ≤ height_in store root) × (height_in store root ≤ max (height_in s.store p) 6 + 1)) where
@@ -60,7 +60,7 @@ module _ {V R : Type 0} {kind : _} (m : Model V R) (s : Shelf V R kind) (d : Dra
 
   short_after : length (text_in store root) ≤ MOST_TEXT
   short_after =
-      let pass = first_none (reasons (brought (parts s)) (told (parts s)) (strings (parts s)) (Add d text)) none in
+      let pass = first_none (reasons (brought (parts s)) (measures (parts s)) (strings (parts s)) (Add d text)) none in
       let both = or_parts (ltb MOST_BROUGHT (length text.now)) (ltb MOST_TEXT (length (draft_text (strings (parts s))) + length text.now)) pass.1.0 in
       omega (arith, ap length text_after, length-append (draft_text (strings (parts s))) text.now, ltb-false _ _ both.1)
 
@@ -76,8 +76,8 @@ module _ {V R : Type 0} {kind : _} (m : Model V R) (s : Shelf V R kind) (d : Dra
       let more : length (arena_of store).added ≡ length (arena_of s.store).added + length text.now = ap length g.added ∙ length-append (arena_of s.store).added text.now in
       let after : strings longer_draft ≡ accepted s.store.build.now (Add d text) (strings (parts s)) =
       λ i. record { texts = [] ∷ texts i; draft = Some (text_after i); opened = s.opened; added = more i } in
-      let high : height_in s.store p ≡ (told (parts s)).draft = ap (height_of (arena_of s.store)) drafts.is in
-      let changed : Changed (parts s) longer_draft text.now (need (told (parts s)) (Add d text)) =
+      let high : height_in s.store p ≡ (measures (parts s)).draft = ap (height_of (arena_of s.store)) drafts.is in
+      let changed : Changed (parts s) longer_draft text.now (need (measures (parts s)) (Add d text)) =
       record {
         same_brought = same_room (parts s) (firm_of s) store text.now _ g s.places refl (Some root) s.opened;
         cost = omega (arith, g.cost, ap (λ h. add_need h (length text.now)) high);
@@ -87,19 +87,19 @@ module _ {V R : Type 0} {kind : _} (m : Model V R) (s : Shelf V R kind) (d : Dra
         places = fills_none s.places.used s.places.memory.now;
         heights = λ k h. ap (λ hs. get_or (0 ∷ hs) k 0) (heights_stay s.store store g.keeps (held s.places) s.documents);
       } in
-      let higher : DraftHeight (Add d text) (told (parts s)).draft (height_in store root) =
+      let higher : DraftHeight (Add d text) (measures (parts s)).draft (height_in store root) =
       subst (λ h. DraftHeight (Add d text) h (height_in store root)) high up in
       rw none (
         refl,
         ap strings same ∙ after,
         (
-          subst (λ q. Changed (parts s) q text.now (need (told (parts s)) (Add d text))) (sym same) changed,
-          subst (λ q. DraftHeight (Add d text) (told (parts s)).draft (told q).draft) (sym same) higher,
+          subst (λ q. Changed (parts s) q text.now (need (measures (parts s)) (Add d text))) (sym same) changed,
+          subst (λ q. DraftHeight (Add d text) (measures (parts s)).draft (measures q).draft) (sym same) higher,
         ),
       )
 
 module _ {V R : Type 0} {kind : _} (m : Model V R) (s : Shelf V R kind) (d : DraftId) (p : Root) (places : Lent Root MOST_PLACES)
-    (none : reason (brought (parts s)) (told (parts s)) (strings (parts s)) (Seal d) ≡ None) (drafts : Drafts m (shelved (parts s)) p)
+    (none : reason (brought (parts s)) (measures (parts s)) (strings (parts s)) (Seal d) ≡ None) (drafts : Drafts m (shelved (parts s)) p)
     (pushes : Gains s.places places (p ∷ [])) where
   abbrev pub sealed_shelf : Parts V R kind
   sealed_shelf = record { store = s.store; places = places; draft = None; mark = s.mark; opened = s.opened }
@@ -115,7 +115,7 @@ module _ {V R : Type 0} {kind : _} (m : Model V R) (s : Shelf V R kind) (d : Dra
   seal_step t k same n =
       let after = strings_after (parts s) (firm_of s) s.store [] 0 grows places p (draft_text (strings (parts s))) pushes drafts.fine_root (sym drafts.text_is) in
       let changed = changed_after (parts s) (firm_of s) s.store [] 0 grows places p (draft_text (strings (parts s))) pushes drafts.fine_root (sym drafts.text_is) None in
-      rw none (ap (λ j. Ok (Made j)) (n ∙ sym (count_texts (parts s))), ap strings same ∙ ap (λ z. with_draft z None) after, (subst (λ q. Changed (parts s) q [] 0) (sym same) changed, ap (λ q. (told q).draft) same))
+      rw none (ap (λ j. Ok (Made j)) (n ∙ sym (count_texts (parts s))), ap strings same ∙ ap (λ z. with_draft z None) after, (subst (λ q. Changed (parts s) q [] 0) (sym same) changed, ap (λ q. (measures q).draft) same))
 
 -- no draft is open, and one more can be counted
 pub none_open : (f : Root → List ℕ) (d : Option Root) (o : ℕ) → false ≡ is_some d → o < MOST_DRAFTS → first ((is_some (option_map f d) || leb MOST_DRAFTS o, DraftOpen) ∷ []) ≡ None

@@ -9,14 +9,14 @@ use Rattle.rope.specs.declared.store.Store.{Store}
 use Rattle.rope_cut.specs.Parts.{Makes, edit_need, text_in, height_in, higher, spliced}
 use Rattle.shelf_view.specs.State.{Shelved, text_at}
 use Rattle.std.proofs.lemmas.List.Edits.{length-between}
-use Rattle.rope_read.specs.Texts.{bytes_of, whole_bytes, of_bounds, IsSlice}
+use Rattle.rope_read.specs.Texts.{bytes_in, whole_bytes, of_bounds, IsSlice}
 use Rattle.rope_read.specs.declared.text.Span.{Span}
 use Rattle.rope_read.specs.declared.text.Text.{Text}
 use Rattle.rope_read.specs.declared.whole.Whole.{Whole}
 use Rattle.rope_read.proofs.Slices.{bounds_lawful}
 use Rattle.shelf_view.specs.Places.{Lies, IsDocument}
 use Rattle.shelf_view.proofs.Placing.{short_of, document_text}
-use Rattle.text_shelf.specs.Shelves.{Parts, parts, shelved, brought, told, strings}
+use Rattle.text_shelf.specs.Shelves.{Parts, parts, shelved, brought, measures, strings}
 use Rattle.text_shelf.specs.Spans.{Spans}
 use Rattle.text_shelf.specs.Calls.{reason, need}
 use Rattle.text_shelf.specs.declared.call.Call.TheVariants.{Cut, Splice}
@@ -27,11 +27,11 @@ use Rattle.text_shelf.proofs.Appending.{Appends, append, takes_grows, cut_fits, 
 
 -- the part x to y of document d, as its door and its slice tell it
 module _ {V R : Type 0} {kind : _} {m : Model V R} {s : Shelved R} {d : ℕ} {w : Whole V R kind} (is : IsDocument m s d w) (text part : Text V R kind)
-    (place : (text.view ≡ w.view) × (text.root ≡ w.root)) (bounds : (text.from ≡ 0) × (text.to ≡ length (whole_bytes w))) (value : bytes_of text ≡ whole_bytes w)
-    (x y : ℕ) (slice : IsSlice text x y part) (lawful : of_bounds (bytes_of text) x y ≡ None) where
+    (place : (text.view ≡ w.view) × (text.root ≡ w.root)) (bounds : (text.from ≡ 0) × (text.to ≡ length (whole_bytes w))) (value : bytes_in text ≡ whole_bytes w)
+    (x y : ℕ) (slice : IsSlice text x y part) (lawful : of_bounds (bytes_in text) x y ≡ None) where
   pub spans : (p : Span) → p ≡ record { root = part.root; from = part.from; to = part.to } → Spans m s d x y p
   spans p at =
-      let both = bounds_lawful (bytes_of text) x y lawful in
+      let both = bounds_lawful (bytes_in text) x y lawful in
       rw at (record {
         lies = subst (Lies m s d) (sym (slice.root ∙ place.1)) is.lies;
         from_is = omega (arith, slice.from, bounds.0);
@@ -40,31 +40,31 @@ module _ {V R : Type 0} {kind : _} {m : Model V R} {s : Shelved R} {d : ℕ} {w 
         within = omega (arith, both.1, ap length (value ∙ document_text is));
       })
 
-  pub part_long : length (bytes_of part) ≡ y - x
-  part_long = ap length slice.bytes ∙ length-between (bytes_of text) x y (bounds_lawful (bytes_of text) x y lawful).1
+  pub part_long : length (bytes_in part) ≡ y - x
+  part_long = ap length slice.bytes ∙ length-between (bytes_in text) x y (bounds_lawful (bytes_in text) x y lawful).1
 
 module _ {V R : Type 0} {kind : _} (m : Model V R) (s : Shelf V R kind) (store : Store V R kind) (places : Lent Root MOST_PLACES) (root : Root) (pushes : Gains s.places places (root ∷ [])) where
   abbrev pub after : Parts V R kind
   after = record { store = store; places = places; draft = s.draft; mark = s.mark; opened = s.opened }
 
   module _ (d x y : ℕ) (p : Span) (span : Spans m (shelved (parts s)) d x y p) where
-    pub cut_appends : reason (brought (parts s)) (told (parts s)) (strings (parts s)) (Cut d x y) ≡ None
+    pub cut_appends : reason (brought (parts s)) (measures (parts s)) (strings (parts s)) (Cut d x y) ≡ None
         → Makes s.store store root (between p.from p.to (text_in s.store p.root)) (edit_need (height_in s.store p.root)) (height_in s.store p.root)
-        → Appends (parts s) after (between x y (text_at (strings (parts s)) d)) [] (need (told (parts s)) (Cut d x y))
+        → Appends (parts s) after (between x y (text_at (strings (parts s)) d)) [] (need (measures (parts s)) (Cut d x y))
     cut_appends none made =
         let takes = subst (λ n. Takes s.store store (edit_need n)) (sym span.lies.high) made.takes in
         let short : length (text_at (strings (parts s)) d) ≤ MOST_TEXT = omega (arith, ap length span.lies.text_is, short_of (arena_of s.store) p.root span.lies.fine_root) in
-        append s store [] (need (told (parts s)) (Cut d x y)) (takes_grows s.store store _ takes) places root (between x y (text_at (strings (parts s)) d)) pushes made.root
-        (made.text_is ∙ (λ i. between (span.from_is i) (span.to_is i) (sym span.lies.text_is i))) (cut_fits (brought (parts s)) (told (parts s)) (strings (parts s)) d x y short none)
+        append s store [] (need (measures (parts s)) (Cut d x y)) (takes_grows s.store store _ takes) places root (between x y (text_at (strings (parts s)) d)) pushes made.root
+        (made.text_is ∙ (λ i. between (span.from_is i) (span.to_is i) (sym span.lies.text_is i))) (cut_fits (brought (parts s)) (measures (parts s)) (strings (parts s)) d x y short none)
 
-    pub splice_appends : (e : ℕ) (q : Root) → Lies m (shelved (parts s)) e q → reason (brought (parts s)) (told (parts s)) (strings (parts s)) (Splice d x y e) ≡ None
+    pub splice_appends : (e : ℕ) (q : Root) → Lies m (shelved (parts s)) e q → reason (brought (parts s)) (measures (parts s)) (strings (parts s)) (Splice d x y e) ≡ None
         → Makes s.store store root (take p.from (text_in s.store p.root) ++ (text_in s.store q ++ drop p.to (text_in s.store p.root)))
         (edit_need (higher s.store p.root q)) (higher s.store p.root q + 2)
-        → Appends (parts s) after (spliced (text_at (strings (parts s)) d) x y (text_at (strings (parts s)) e)) [] (need (told (parts s)) (Splice d x y e))
+        → Appends (parts s) after (spliced (text_at (strings (parts s)) d) x y (text_at (strings (parts s)) e)) [] (need (measures (parts s)) (Splice d x y e))
     splice_appends e q lies none made =
-        let high : higher s.store p.root q ≡ max (get_or (told (parts s)).heights d 0) (get_or (told (parts s)).heights e 0) = λ i. max (sym span.lies.high i) (sym lies.high i) in
+        let high : higher s.store p.root q ≡ max (get_or (measures (parts s)).heights d 0) (get_or (measures (parts s)).heights e 0) = λ i. max (sym span.lies.high i) (sym lies.high i) in
         let takes = subst (λ n. Takes s.store store (edit_need n)) high made.takes in
         let front : take p.from (text_in s.store p.root) ≡ take x (text_at (strings (parts s)) d) = λ i. take (span.from_is i) (sym span.lies.text_is i) in
         let back : drop p.to (text_in s.store p.root) ≡ drop y (text_at (strings (parts s)) d) = λ i. drop (span.to_is i) (sym span.lies.text_is i) in
-        append s store [] (need (told (parts s)) (Splice d x y e)) (takes_grows s.store store _ takes) places root (spliced (text_at (strings (parts s)) d) x y (text_at (strings (parts s)) e)) pushes made.root
-        (made.text_is ∙ (λ i. front i ++ (sym lies.text_is i ++ back i))) (splice_fits (brought (parts s)) (told (parts s)) (strings (parts s)) d x y e none)
+        append s store [] (need (measures (parts s)) (Splice d x y e)) (takes_grows s.store store _ takes) places root (spliced (text_at (strings (parts s)) d) x y (text_at (strings (parts s)) e)) pushes made.root
+        (made.text_is ∙ (λ i. front i ++ (sym lies.text_is i ++ back i))) (splice_fits (brought (parts s)) (measures (parts s)) (strings (parts s)) d x y e none)

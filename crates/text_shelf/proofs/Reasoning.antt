@@ -10,11 +10,11 @@ use Rattle.shelf_view.specs.Questions.{of_document, of_part}
 use Rattle.refusal.specs.declared.Refusal.{Refusal}
 use Rattle.refusal.specs.declared.Refusal.TheVariants.{NoDocument, BadPart, TooLong}
 use Rattle.refusal.proofs.Firsts.{first_is, first_not, first_stays, first_then, first_or, passed}
-use Rattle.text_shelf.specs.Shelves.{Brought, Told}
+use Rattle.text_shelf.specs.Shelves.{Brought, Measures}
 use Rattle.text_shelf.specs.Calls.{reason, memory}
 use Rattle.text_shelf.specs.declared.call.Call.TheVariants.{Cut, Splice}
 
-module _ {R : Type 0} (b : Brought) (t : Told) (v s : Shelved R) (same : v ≡ s) where
+module _ {R : Type 0} (b : Brought) (t : Measures) (v s : Shelved R) (same : v ≡ s) where
   part_of : (d x y : ℕ) (o : Option Refusal) → of_part (state_of v) d x y ≡ o → of_part (state_of s) d x y ≡ o
   part_of d x y o h = ap (λ z. of_part (state_of z) d x y) (sym same) ∙ h
 

@@ -10,7 +10,7 @@ use Rattle.rope_read.specs.Texts.{bad_part}
 use Rattle.shelf_view.specs.State.{State, unknown, text_at, strange, draft_text}
 use Rattle.refusal.specs.declared.Refusal.{Refusal}
 use Rattle.refusal.specs.declared.Refusal.TheVariants.{StrangeDraft, DraftOpen, NoDocument, BadPart, TooLong, TextFull, RecordsShort, NumbersSpent}
-use Rattle.text_shelf.specs.Shelves.{Brought, Told}
+use Rattle.text_shelf.specs.Shelves.{Brought, Measures}
 use Rattle.text_shelf.specs.Rules.{Rules, refusal}
 use Rattle.text_shelf.specs.declared.call.Call.{Call}
 use Rattle.text_shelf.specs.declared.call.Call.TheVariants.{Put, Take, Cut, Splice, Open, Add, Seal, GiveUp}
@@ -53,7 +53,7 @@ answer mark s (GiveUp d) = Done
 
 -- in records: 2 × ⌈n / 64⌉ for a new text of n bytes, 32 × (h + 1) for an edit of texts at MOST_TEXT h high, and both for
 -- n bytes behind a draft that is h high
-abbrev pub need : Told → Call → ℕ
+abbrev pub need : Measures → Call → ℕ
 need t (Put text) = text_need (length text.now)
 need t (Take a b) = text_need (b - a)
 need t (Cut d a b) = edit_need (slice_index t.heights d)
@@ -98,7 +98,7 @@ abbrev pub text_full : Brought → State → ℕ → Bool
 text_full b s n = nat_lt b.added (s.added + n)
 
 -- fewer than n records are free
-abbrev pub records_short : Brought → Told → ℕ → Bool
+abbrev pub records_short : Brought → Measures → ℕ → Bool
 records_short b t n = nat_lt (b.records - t.used) n
 
 -- every place is taken; document 0 takes none
@@ -107,7 +107,7 @@ numbers_spent b s = nat_lt b.places (length s.texts)
 
 -- reasons, by what was brought, what the shelf tells, and the list of strings
 abbrev pub Because : Type 0
-Because = Brought → Told → State → Reasons
+Because = Brought → Measures → State → Reasons
 
 -- where n added bytes more are asked for, n records more, and a document more
 abbrev pub bytes : ℕ → Because
@@ -128,7 +128,7 @@ abbrev pub longer : ℕ → ℕ → ℕ → Because
 longer n len high b t s = (nat_lt MOST_BROUGHT n || nat_lt MOST_TEXT (len + n), TooLong) ∷ (bytes n b t s ++ records (add_need high n) b t s)
 
 -- the reasons for which a call may be refused, in the order in which they are tested
-abbrev pub reasons : Brought → Told → State → Call → Reasons
+abbrev pub reasons : Brought → Measures → State → Call → Reasons
 reasons b t s (Put text) = (nat_lt MOST_BROUGHT (length text.now), TooLong) ∷ (bytes (length text.now) b t s ++ memory (need t (Put text)) b t s)
 reasons b t s (Take x y) = (bad_part b.build x y, BadPart) ∷ (nat_lt MOST_TEXT (y - x), TooLong) ∷ memory (need t (Take x y)) b t s
 reasons b t s (Cut d x y) = (unknown s d, NoDocument) ∷ (bad_part (text_at s d) x y, BadPart) ∷ memory (need t (Cut d x y)) b t s
@@ -147,5 +147,5 @@ abbrev pub every_shelf : Rules Call
 every_shelf = record { reasons = reasons; accepted = accepted; answer = answer; need = need; brings = brings; draft_height = DraftHeight }
 
 -- the refusal that a call answers, or none
-abbrev pub reason : Brought → Told → State → Call → Option Refusal
+abbrev pub reason : Brought → Measures → State → Call → Option Refusal
 reason b t s call = refusal every_shelf b t s call

@@ -57,7 +57,7 @@ token s = option_map (λ root. record { id = record { mark = s.mark; count = s.o
 
 -- the first n calls are run on s one behind the other, n being as many as there are places for answers; the answer of each
 -- stands at its place, and what lies behind keeps its content
-pub record Runs {C : Type 0} (r : Rules C) {V R : Type 0} {kind : _} (s t : Shelf V R kind) (calls : List C) (n : ℕ) (old new : List (Result Answer Refusal)) : Type 0 where
+pub record RunInOrder {C : Type 0} (r : Rules C) {V R : Type 0} {kind : _} (s t : Shelf V R kind) (calls : List C) (n : ℕ) (old new : List (Result Answer Refusal)) : Type 0 where
   pub count : n ≡ min (length calls) (length old)
   pub reaches : More r s (take n calls) (take n new) t
   pub behind : drop n new ≡ drop n old
@@ -75,5 +75,5 @@ pub record Replayed {C : Type 0} (r : Rules C) {V R : Type 0} {kind : _} (build 
 -- what a resumption gives: the calls go behind all that the shelf was reached by, and the token of its draft is given; or,
 -- where the draft that is brought is not the shelf's, nothing is done, and it is handed back
 abbrev pub Resumed : {C : Type 0} → Rules C → {V R : Type 0} {kind : _} → Shelf V R kind → Option Draft → List C → List (Result Answer Refusal) → Shelf V R kind → List (Result Answer Refusal) → Result Resumption (Refusal × Option Draft) → Type 0
-Resumed r s draft calls old t new (Ok p) = (draft ≡ token s) × Runs r s t calls p.calls old new × (p.draft ≡ token t)
+Resumed r s draft calls old t new (Ok p) = (draft ≡ token s) × RunInOrder r s t calls p.calls old new × (p.draft ≡ token t)
 Resumed r s draft calls old t new (Err (e, back)) = ¬ (draft ≡ token s) × (e ≡ StrangeDraft) × (back ≡ draft) × (t ≡ s) × (new ≡ old)

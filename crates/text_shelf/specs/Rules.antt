@@ -3,23 +3,23 @@ use Rattle.std.specs.Prelude.{ℕ, Bool, true, false, List, Option}
 use Rattle.refusal.specs.Refusals.{Reasons, first}
 use Rattle.shelf_view.specs.State.{State}
 use Rattle.refusal.specs.declared.Refusal.{Refusal}
-use Rattle.text_shelf.specs.Shelves.{Brought, Told}
+use Rattle.text_shelf.specs.Shelves.{Brought, Measures}
 use Rattle.text_shelf.specs.declared.call.Answer.{Answer}
 
 pub record Rules (C : Type 0) : Type 1 where
   -- the reasons to refuse a call, in the order in which they are tested
-  pub reasons : Brought → Told → State → C → Reasons
+  pub reasons : Brought → Measures → State → C → Reasons
   -- what an accepted call makes of the list of strings, over this build text, and what it answers on a shelf of this mark
   pub accepted : List ℕ → C → State → State
   pub answer : ℕ → State → C → Answer
   -- the records that it may take, and the text that it writes behind the added text
-  pub need : Told → C → ℕ
+  pub need : Measures → C → ℕ
   pub brings : C → List ℕ
   -- how high the open draft is told before it and after it
   pub draft_height : C → ℕ → ℕ → Type 0
 
 -- the refusal that a call answers, or none
-abbrev pub refusal : {C : Type 0} → Rules C → Brought → Told → State → C → Option Refusal
+abbrev pub refusal : {C : Type 0} → Rules C → Brought → Measures → State → C → Option Refusal
 refusal r b t s call = first (r.reasons b t s call)
 
 -- one step of the list of strings: a refused call leaves it as it is

@@ -43,13 +43,13 @@ brought s = record {
 }
 
 -- what height and records used tell: of the documents, of the draft, and of all
-pub record Told : Type 0 where
+pub record Measures : Type 0 where
   pub heights : List ℕ
   pub draft : ℕ
   pub used : ℕ
 
-abbrev pub told : {V R : Type 0} {kind : _} → Parts V R kind → Told
-told s = record { heights = heights_of (shelved s); draft = height_of_draft (shelved s); used = s.store.records.used }
+abbrev pub measures : {V R : Type 0} {kind : _} → Parts V R kind → Measures
+measures s = record { heights = heights_of (shelved s); draft = height_of_draft (shelved s); used = s.store.records.used }
 
 -- the list of strings that a shelf holds
 abbrev pub strings : {V R : Type 0} {kind : _} → Parts V R kind → State

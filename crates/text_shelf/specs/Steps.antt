@@ -3,7 +3,7 @@ use Rattle.std.specs.Prelude.{◌≡◌, ℕ, ◌+◌, ◌<◌, ◌≤◌, List,
 use Rattle.std.specs.Result.{result_map_both}
 use Rattle.rope.specs.Lents.{Fills}
 use Rattle.refusal.specs.declared.Refusal.{Refusal}
-use Rattle.text_shelf.specs.Shelves.{Parts, parts, shelved, brought, told, strings}
+use Rattle.text_shelf.specs.Shelves.{Parts, parts, shelved, brought, measures, strings}
 use Rattle.text_shelf.specs.Rules.{Rules, refusal}
 use Rattle.text_shelf.specs.Calls.{every_shelf}
 use Rattle.text_shelf.specs.declared.call.Call.{Call}
@@ -22,7 +22,7 @@ pub record Changed {V R : Type 0} {kind : _} (s t : Parts V R kind) (bs : List �
   pub records : Fills s.store.records.used t.store.records.used s.store.records.memory.now t.store.records.memory.now
   pub places : Fills s.places.used t.places.used s.places.memory.now t.places.memory.now
   -- every document keeps its height
-  pub heights : (d : ℕ) → d < length (strings s).texts → slice_index (told t).heights d ≡ slice_index (told s).heights d
+  pub heights : (d : ℕ) → d < length (strings s).texts → slice_index (measures t).heights d ≡ slice_index (measures s).heights d
 
 -- what a call does, by the reason to refuse it: it answers that refusal, and the whole shelf with all its memory is as
 -- it was; or, where there is none, it answers and leaves what the list of strings says
@@ -31,12 +31,12 @@ Stepped r (Some e) s call a t = (a ≡ Err e) × (t ≡ s)
 Stepped r None s call a t =
     (a ≡ Ok (r.answer s.mark (strings (parts s)) call))
     × (strings (parts t) ≡ r.accepted s.store.build.now call (strings (parts s)))
-    × (Changed (parts s) (parts t) (r.brings call) (r.need (told (parts s)) call)
-    × r.draft_height call (told (parts s)).draft (told (parts t)).draft)
+    × (Changed (parts s) (parts t) (r.brings call) (r.need (measures (parts s)) call)
+    × r.draft_height call (measures (parts s)).draft (measures (parts t)).draft)
 
 -- what a call of an alphabet does to the shelf s, which it leaves as t
 abbrev pub StepsBy : {C : Type 0} → Rules C → {V R : Type 0} {kind : _} → Shelf V R kind → C → Result Answer Refusal → Shelf V R kind → Type 0
-StepsBy r s call a t = Stepped r (refusal r (brought (parts s)) (told (parts s)) (strings (parts s)) call) s call a t
+StepsBy r s call a t = Stepped r (refusal r (brought (parts s)) (measures (parts s)) (strings (parts s)) call) s call a t
 
 -- and a call of every shelf
 abbrev pub Steps : {V R : Type 0} {kind : _} → Shelf V R kind → Call → Result Answer Refusal → Shelf V R kind → Type 0

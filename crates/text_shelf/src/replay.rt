@@ -1,6 +1,6 @@
 //! Lists of calls, run one behind the other.
 ghost use Rattle.text_shelf.specs.Calls.{every_shelf};
-ghost use Rattle.text_shelf.specs.Reaches.{Runs, Replayed, Resumed};
+ghost use Rattle.text_shelf.specs.Reaches.{RunInOrder, Replayed, Resumed};
 
 use crate::call::{Answer, Call};
 use crate::draft::Draft;
@@ -32,7 +32,7 @@ fn run<'b, 'a, 't, M: Monoid>(
     calls: &[Call<'t>],
     answers: &mut [Result<Answer, Refusal>],
 ) -> usize
-    ensures { Runs every_shelf shelf.old shelf.new calls.now result answers.old answers.new }
+    ensures { RunInOrder every_shelf shelf.old shelf.new calls.now result answers.old answers.new }
 {
     let n = calls.len().min(answers.len());
     for i in 0..n {

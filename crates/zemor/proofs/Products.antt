@@ -7,7 +7,7 @@ use Rattle.residue.proofs.Modulo.{dot, same_add, same_mul}
 use Rattle.zemor.specs.Matrix.{identity, bit, matrix, times}
 use Rattle.zemor.specs.Bits.{product_of}
 use Rattle.residue.specs.Fibonacci.{fib}
-use Rattle.zemor.specs.Whole.{whole, whole_times, Bounded, Short}
+use Rattle.zemor.specs.Whole.{whole, whole_times, Bounded, FewBits}
 use Rattle.zemor.specs.Peeling.{First}
 use Rattle.zemor.specs.declared.matrix.Entries.{Entries}
 use Rattle.zemor.specs.Laws.{four}
@@ -156,7 +156,7 @@ pub record Few (x y : Entries) : Type 0 where
   pub c_few : (whole_times x y).c < prime
   pub d_few : (whole_times x y).d < prime
 
-pub few : (x y : Entries) → Short x y → Few x y
+pub few : (x y : Entries) → FewBits x y → Few x y
 few x y h =
     let u = h.front in
     let v = h.back in

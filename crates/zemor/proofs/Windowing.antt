@@ -6,7 +6,7 @@ use Rattle.monoid.specs.Monoid.{fold_of, all_bytes}
 use Rattle.zemor.specs.Bits.{digits_in, bits_in, is_one, text_bits, product_of}
 use Rattle.zemor.specs.Values.{sl2, row}
 use Rattle.zemor.specs.Peeling.{Tells, spelled}
-use Rattle.zemor.specs.Windows.{window_text, Short, Windowed}
+use Rattle.zemor.specs.Windows.{window_text, AtMostFive, Windowed}
 use Rattle.zemor.specs.declared.matrix.Sl2.{Sl2}
 use Rattle.zemor.specs.declared.peel.Bits.{Bits}
 use Rattle.zemor.specs.declared.window.Window.{Window}
@@ -43,7 +43,7 @@ module _ (x : Sl2) where
   bits_of : (w : List ℕ) → fold_of sl2 w ≡ x → product_of (text_bits w) ≡ row x
   bits_of w e = sym (fold_product w) ∙ ap row e
 
-  few_bits : (w : List ℕ) → Short w → length (text_bits w) ≤ 45
+  few_bits : (w : List ℕ) → AtMostFive w → length (text_bits w) ≤ 45
   few_bits w h = omega (arith, length_text_bits w, h.few)
 
   pub window_none : Tells x None → Windowed x None

@@ -29,7 +29,7 @@ abbrev pub Edge : Type 0
 Edge = (fib 46 ≡ 1836311903) × (fib 46 < prime) × (prime ≤ fib 47)
 
 -- two matrices that are products of bits, of at most 45 bits together
-pub record Short (x y : Entries) : Type 0 where
+pub record FewBits (x y : Entries) : Type 0 where
   pub front : List Bool
   pub back : List Bool
   pub x_is : x ≡ product_of front

@@ -12,13 +12,13 @@ abbrev pub window_text : Window → List ℕ
 window_text s = drop (5 - s.len) s.bytes
 
 -- a text of at most five bytes
-pub record Short (w : List ℕ) : Type 0 where
+pub record AtMostFive (w : List ℕ) : Type 0 where
   pub bytes : all_bytes w ≡ true
   pub few : length w ≤ 5
 
 -- the window w, between what has the fingerprints front and back, gives the fingerprint x
 pub record Gives (front back x : Sl2) (w : List ℕ) : Type 0 where
-  pub short : Short w
+  pub short : AtMostFive w
   pub whole : sl2.joined front (sl2.joined (fold_of sl2 w) back) ≡ x
 
 -- the answer is the one window that gives x, and every other gives another fingerprint; or no window gives x
@@ -29,6 +29,6 @@ ReadBack front back x (Err e) = (e ≡ NoWindow) × ((w : List ℕ) → Gives fr
 -- the answer is the one text of at most five bytes that has the fingerprint x; or there is none
 abbrev pub Windowed : Sl2 → Option Window → Type 0
 Windowed x (Some s) =
-    Short (window_text s) × (fold_of sl2 (window_text s) ≡ x)
-    × ((w : List ℕ) → Short w → fold_of sl2 w ≡ x → w ≡ window_text s)
-Windowed x None = (w : List ℕ) → Short w → fold_of sl2 w ≢ x
+    AtMostFive (window_text s) × (fold_of sl2 (window_text s) ≡ x)
+    × ((w : List ℕ) → AtMostFive w → fold_of sl2 w ≡ x → w ≡ window_text s)
+Windowed x None = (w : List ℕ) → AtMostFive w → fold_of sl2 w ≢ x

@@ -1,8 +1,8 @@
 ghost use Rattle.std.specs.Prelude.{◌≡◌, ◌-◌, ◌<◌, min, length, take};
 ghost use Rattle.refusal.specs.declared.limits.TheConstants.{MOST_BYTES, MOST_RECORDS};
-ghost use Rattle.rope.specs.Arena.{Reads};
+ghost use Rattle.rope.specs.Arena.{IsRecord};
 ghost use Rattle.rope.specs.Memory.{arena_of, seen};
-ghost use Rattle.rope.specs.Steps.{Fine, Pushed, shown};
+ghost use Rattle.rope.specs.Steps.{Fine, Pushed, tree_for};
 
 use super::Store;
 use crate::lent::Lent;
@@ -68,7 +68,7 @@ impl<'b, 'a, M: Monoid> Store<'b, 'a, M> {
     /// Record `i`, which tells the length, the height and the summary of its tree.
     pub fn record(&self, i: u32) -> Record<M::Row>
         requires { i < self.now.records.used }
-        ensures { Reads M.Monoid.model (arena_of self.now) i result }
+        ensures { IsRecord M.Monoid.model (arena_of self.now) i result }
     {
         self.view().record(i)
     }
@@ -76,7 +76,7 @@ impl<'b, 'a, M: Monoid> Store<'b, 'a, M> {
     /// Writes a record behind the used ones, and tells its place.
     pub(super) fn push(&mut self, record: Record<M::Row>) -> u32
         requires { Fine M.Monoid.model self.old «record» }
-        ensures { Pushed self.old self.new result (shown self.old «record») }
+        ensures { Pushed self.old self.new result (tree_for self.old «record») }
     {
         (self.records.push(record) - 1) as u32
     }

@@ -1,7 +1,7 @@
 ghost use Rattle.std.specs.Prelude.{◌≡◌, ◌+◌, length};
 ghost use Rattle.std.specs.List.{between};
 ghost use Rattle.refusal.specs.Refusals.{Answers};
-ghost use Rattle.rope_read.specs.Texts.{bytes_of};
+ghost use Rattle.rope_read.specs.Texts.{bytes_in};
 ghost use Rattle.shelf_view.specs.State.{shown, strings, text_at};
 ghost use Rattle.shelf_view.specs.Questions.{of_copy, of_same};
 ghost use Rattle.shelf_view.specs.Marked.{Compares, in_part, ReadsBack};
@@ -15,8 +15,8 @@ use rope_read::text::Text;
 
 /// Compares two texts of equal length by their fingerprints.
 fn compare<'v>(one: Text<'v, Marked>, other: Text<'v, Marked>) -> Sameness
-    requires { length (bytes_of one) ≡ length (bytes_of other) }
-    ensures { Compares (length (bytes_of one.entry)) (bytes_of one.entry) (bytes_of other.entry) result }
+    requires { length (bytes_in one) ≡ length (bytes_in other) }
+    ensures { Compares (length (bytes_in one.entry)) (bytes_in one.entry) (bytes_in other.entry) result }
 {
     if !one.summary().first.equals(other.summary().first) {
         Sameness::Different

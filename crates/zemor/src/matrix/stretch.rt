@@ -4,7 +4,7 @@ ghost use Rattle.residue.specs.Residue.{prime};
 ghost use Rattle.zemor.specs.Matrix.{times};
 ghost use Rattle.zemor.specs.Bits.{bits_in, product_of, text_bits};
 ghost use Rattle.zemor.specs.Values.{row};
-ghost use Rattle.zemor.specs.Whole.{Short};
+ghost use Rattle.zemor.specs.Whole.{FewBits};
 
 use super::table::entries;
 use super::{Entries, Sl2};
@@ -20,7 +20,7 @@ fn whole_dot(a: u32, b: u32, e: u32, g: u32) -> u32
 
 /// The product of two matrices that are products of at most 45 bits together.
 fn whole_product(x: Entries, y: Entries) -> Entries
-    requires { Short x y }
+    requires { FewBits x y }
     ensures { result ≡ times x y }
 {
     Entries {

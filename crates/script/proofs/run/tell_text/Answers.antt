@@ -1,5 +1,5 @@
 use Rattle.std.proofs.Common.{◌∷◌, [], ◌++◌, length, decimal, Ok, sym, ap, ◌∙◌, subst, arith}
-use Rattle.rope_read.specs.Texts.{bytes_of}
+use Rattle.rope_read.specs.Texts.{bytes_in}
 use Rattle.shelf_view.specs.State.{state_of}
 use Rattle.script.specs.Answers.{WritesSaid, text_of}
 use Rattle.script.proofs.Telling.{text_told}
@@ -13,7 +13,7 @@ returns c =
     let out = c.args.out.now in
     let new = c.append.new.out in
     let n = c.append.result in
-    let text = bytes_of c.text.result in
+    let text = bytes_in c.text.result in
     let head = decimal len ++ (58 ∷ []) in
     let long = c.len-len.ensures ∙ ap length (sym c.text.ensures.value) in
     let body = c.append_text-at.ensures.after out head c.begin-at.ensures.after in

@@ -2,7 +2,7 @@ use Rattle.std.proofs.Common.{refl, arith}
 use Rattle.std.proofs.lemmas.List.Edits.{length-between}
 use Rattle.rope.specs.Arena.{text_of}
 use Rattle.rope.specs.Memory.{seen}
-use Rattle.rope_read.specs.Texts.{bytes_of}
+use Rattle.rope_read.specs.Texts.{bytes_in}
 use Rattle.rope_read.proofs.Slices.{part_of_part, lawful_bounds}
 use Rattle.rope_read.proofs.text.Text.part.Goals as goal
 
@@ -10,7 +10,7 @@ pub returns : goal.returns
 returns g c =
     let t = c.args.self in
     let xs = text_of (seen t.view) t.root in (
-      lawful_bounds (bytes_of t) c.args.a c.args.b c.if-a-b.false (omega arith),
+      lawful_bounds (bytes_in t) c.args.a c.args.b c.if-a-b.false (omega arith),
       record {
         view = refl;
         root = refl;

@@ -1,6 +1,6 @@
 use Rattle.std.proofs.Common.{refl, arith}
 use Rattle.refusal.proofs.Firsts.{first_none}
-use Rattle.text_shelf.specs.Shelves.{parts, brought, told, strings}
+use Rattle.text_shelf.specs.Shelves.{parts, brought, measures, strings}
 use Rattle.text_shelf.specs.Calls.{reasons}
 use Rattle.text_shelf.specs.declared.call.Call.TheVariants.{Seal}
 use Rattle.text_shelf.proofs.Appending.{ghosts, unspent}
@@ -10,7 +10,7 @@ use Rattle.text_shelf.proofs.draft.Draft.seal.Goals as goal
 pub push-requires : goal.push-requires
 push-requires g c =
     let s = parts c.args.shelf.now in
-    (omega arith, unspent s (first_none (reasons (brought s) (told s) (strings s) (Seal c.args.self.id)) c.in-Ok.ensures.0).1.0)
+    (omega arith, unspent s (first_none (reasons (brought s) (measures s) (strings s) (Seal c.args.self.id)) c.in-Ok.ensures.0).1.0)
 
 pub invariant_of-shelf : goal.invariant_of-shelf
 invariant_of-shelf g c =

@@ -1,7 +1,7 @@
 use Rattle.std.proofs.Common.{length, refl, ap, arith}
 use Rattle.rope.specs.Memory.{arena_of}
 use Rattle.shelf_view.proofs.Placing.{short_of}
-use Rattle.text_shelf.specs.Shelves.{parts, brought, told, strings}
+use Rattle.text_shelf.specs.Shelves.{parts, brought, measures, strings}
 use Rattle.text_shelf.specs.declared.call.Call.TheVariants.{Cut}
 use Rattle.text_shelf.proofs.Appending.{appended_step, ghosts, unspent, cut_fits}
 use Rattle.text_shelf.proofs.Editing.{cut_appends}
@@ -13,7 +13,7 @@ push-requires g c =
     let part = c.in_ok-part.ensures in
     let lies = part.1.lies in (
       omega arith,
-      unspent s (cut_fits (brought s) (told s) (strings s) c.args.d c.args.from c.args.to
+      unspent s (cut_fits (brought s) (measures s) (strings s) c.args.d c.args.from c.args.to
           (omega (arith, ap length lies.text_is, short_of (arena_of s.store) c.in_ok-part.part.root lies.fine_root)) part.0).free,
     )
 

@@ -1,5 +1,5 @@
 use Rattle.std.proofs.Common.{refl, arith}
-use Rattle.text_shelf.specs.Shelves.{parts, brought, told, strings}
+use Rattle.text_shelf.specs.Shelves.{parts, brought, measures, strings}
 use Rattle.text_shelf.specs.declared.call.Call.TheVariants.{Put}
 use Rattle.text_shelf.proofs.Appending.{append, appended_step, ghosts, unspent, put_fits}
 use Rattle.text_shelf.proofs.shelf.Shelf.put.Goals as goal
@@ -7,7 +7,7 @@ use Rattle.text_shelf.proofs.shelf.Shelf.put.Goals as goal
 pub push-requires : goal.push-requires
 push-requires g c =
     let s = parts c.args.self.now in
-    (omega arith, unspent s (put_fits (brought s) (told s) (strings s) c.args.text c.in_ok-check_put.ensures.0).free)
+    (omega arith, unspent s (put_fits (brought s) (measures s) (strings s) c.args.text c.in_ok-check_put.ensures.0).free)
 
 pub invariant_of-self : goal.invariant_of-self
 invariant_of-self g c =
@@ -16,7 +16,7 @@ invariant_of-self g c =
     let push = c.push.ensures.gains in
     ghosts (append c.args.self.now c.keep-root.new.store c.args.text.now _ made.grows c.push.new.self c.keep-root.result c.args.text.now
     push made.stands.root made.stands.text_is
-    (put_fits (brought s) (told s) (strings s) c.args.text c.in_ok-check_put.ensures.0)).firm
+    (put_fits (brought s) (measures s) (strings s) c.args.text c.in_ok-check_put.ensures.0)).firm
 
 pub returns : goal.returns
 returns g c =
@@ -27,4 +27,4 @@ returns g c =
     appended_step c.args.self.now _ (Put c.args.text) c.push.result c.args.text.now none c.push.ensures.value refl refl (λ h j e. e)
     (append c.args.self.now c.keep-root.new.store c.args.text.now _ made.grows c.push.new.self c.keep-root.result c.args.text.now
     push made.stands.root made.stands.text_is
-    (put_fits (brought s) (told s) (strings s) c.args.text none))
+    (put_fits (brought s) (measures s) (strings s) c.args.text none))

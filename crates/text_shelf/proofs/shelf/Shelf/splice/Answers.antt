@@ -1,5 +1,5 @@
 use Rattle.std.proofs.Common.{refl, arith}
-use Rattle.text_shelf.specs.Shelves.{parts, brought, told, strings}
+use Rattle.text_shelf.specs.Shelves.{parts, brought, measures, strings}
 use Rattle.text_shelf.specs.declared.call.Call.TheVariants.{Splice}
 use Rattle.text_shelf.proofs.Appending.{appended_step, ghosts, unspent, splice_fits}
 use Rattle.text_shelf.proofs.Editing.{splice_appends}
@@ -8,7 +8,7 @@ use Rattle.text_shelf.proofs.shelf.Shelf.splice.Goals as goal
 pub push-requires : goal.push-requires
 push-requires g c =
     let s = parts c.args.self.now in
-    (omega arith, unspent s (splice_fits (brought s) (told s) (strings s) c.args.d c.args.from c.args.to c.args.other c.in_ok-part.ensures.0).free)
+    (omega arith, unspent s (splice_fits (brought s) (measures s) (strings s) c.args.d c.args.from c.args.to c.args.other c.in_ok-part.ensures.0).free)
 
 pub invariant_of-self : goal.invariant_of-self
 invariant_of-self g c =

@@ -1,6 +1,6 @@
 use Rattle.std.proofs.Common.{[], ◌∷◌, length, refl, ◌∙◌, sym, subst, nat_lt}
 use Rattle.std.proofs.lemmas.Result.{err_from_is_err_and}
-use Rattle.rope_read.specs.Texts.{bad_part, bytes_of}
+use Rattle.rope_read.specs.Texts.{bad_part, bytes_in}
 use Rattle.shelf_view.specs.State.{shown, strings, text_at, unknown}
 use Rattle.shelf_view.specs.Marked.{in_part, earlier, ReadsBack, of_buffer}
 use Rattle.refusal.specs.declared.Refusal.TheVariants.{NoDocument, BadPart, SmallBuffer}
@@ -24,7 +24,7 @@ returns-in_err-front c =
     let p = err_from_is_err_and c.from_residual-in_err-front.result c.from_residual-in_err-front.ensures.1 in
     rw (p.1, p.2) (
       earlier (first_stays part ((nat_lt (length c.args.out.now) 5, SmallBuffer) ∷ []) _
-          (part_is s c.args.d c.args.a c.args.b (bytes_of c.text.result) text c.in_ok-document.ensures.0 ∙ c.in_err-front.ensures)),
+          (part_is s c.args.d c.args.a c.args.b (bytes_in c.text.result) text c.in_ok-document.ensures.0 ∙ c.in_err-front.ensures)),
       refl,
     )
 
@@ -37,8 +37,8 @@ returns c =
     let text = c.text.ensures.value ∙ document_text c.in_ok-document.ensures.1 in
     let sides = c.in_ok-front.ensures in
     let whole =
-    around_part (shown c.args.self.now) c.args.d c.args.a c.args.b (bytes_of c.text.result) text c.in_ok-front.front c.in_ok-front.back c.summary.result c.summary-2.result
+    around_part (shown c.args.self.now) c.args.d c.args.a c.args.b (bytes_in c.text.result) text c.in_ok-front.front c.in_ok-front.back c.summary.result c.summary-2.result
     c.summary.ensures c.summary-2.ensures sides.1.0 sides.1.1 in
     subst (λ why. ReadsBack why (in_part (text_at s c.args.d) c.args.a c.args.b) digits old c.read_between.new.out c.read_between.result)
-    (sym (first_then part ((nat_lt (length old) 5, SmallBuffer) ∷ []) (part_is s c.args.d c.args.a c.args.b (bytes_of c.text.result) text c.in_ok-document.ensures.0 ∙ sides.0)))
+    (sym (first_then part ((nat_lt (length old) 5, SmallBuffer) ∷ []) (part_is s c.args.d c.args.a c.args.b (bytes_in c.text.result) text c.in_ok-document.ensures.0 ∙ sides.0)))
     (subst (λ f. ReadsBack (of_buffer (length old)) f digits old c.read_between.new.out c.read_between.result) whole c.read_between.ensures)
