@@ -1,22 +1,9 @@
 use crate::range::ByteRange;
 use monoid::Monoid;
 use refusal::Refusal;
-use rope::record::{Origin, Record, Shape};
+use rope::record::Record;
 use std::test::Fail;
 use text_shelf::shelf::Shelf;
-
-const BLANK: Record<ByteRange> = Record {
-    shape: Shape::Leaf {
-        origin: Origin::Build,
-        start: 0,
-    },
-    length: 0,
-    height: 0,
-    row: ByteRange {
-        least: 255,
-        greatest: 0,
-    },
-};
 
 fn range(least: u8, greatest: u8) -> ByteRange {
     ByteRange { least, greatest }
@@ -34,7 +21,7 @@ fn put_and_tell<'b, 'a>(
 #[test]
 fn tells_least_and_greatest(rt: HostRuntime) -> Result<(), Fail> {
     let mut added = [0u8; 100];
-    let mut records = [BLANK; 8];
+    let mut records = [Record::blank(ByteRange::empty()); 8];
     let mut places = [None; 4];
     let mut shelf: Shelf<ByteRange> = Shelf::new(b"", &mut added, &mut records, &mut places, 1);
     assert_eq!(rt; put_and_tell(&mut shelf, b"")?, range(255, 0));
