@@ -3,7 +3,7 @@ use Rattle.std.specs.Prelude.{◌≡◌, ℕ, ◌+◌, ◌≤◌, ◌==◌, Bool
 use Rattle.std.specs.List.{between}
 use Rattle.std.specs.Char.{is_ascii_digit}
 use Rattle.std.specs.Option.{option_map}
-use Rattle.compare.specs.declared.change.Stretch.{Stretch}
+use Rattle.compare.specs.declared.change.Part.{Part}
 use Rattle.compare.specs.declared.change.Change.{Change}
 
 -- how many bytes two texts have in common at their beginning, and at their end
@@ -13,8 +13,8 @@ front_of a b = length (take_while (λ p. p.0 == p.1) (zip a b))
 abbrev pub back_of : List ℕ → List ℕ → ℕ
 back_of a b = front_of (reverse a) (reverse b)
 
--- the stretches begin where the texts first part, and end before what they have in common at their ends; with the new
--- stretch in the place of the old one, the old text is the new one
+-- both parts begin where the texts first differ, and end before what they have in common at their ends; with the new
+-- part in the place of the old one, the old text is the new one
 pub record Changed (old new : List ℕ) (c : Change) : Type 0 where
   pub differ : ¬ (old ≡ new)
   pub old_from : c.old.from ≡ front_of old new
@@ -35,15 +35,15 @@ before text place = length (take_while no_newline (reverse (take place text)))
 abbrev pub behind : List ℕ → ℕ → ℕ
 behind text place = length (take_while no_newline (drop place text))
 
--- the stretch, longer by the rest of its first line and of its last
-pub record Lines (text : List ℕ) (part lines : Stretch) : Type 0 where
+-- the part, longer by the rest of its first line and of its last
+pub record Lines (text : List ℕ) (part lines : Part) : Type 0 where
   pub from : lines.from + before text part.from ≡ part.from
   pub to : lines.to ≡ part.to + behind text part.to
   pub within : lines.to ≤ length text
 
 -- the first digits of a text, at most so many of them
-abbrev pub digits_from : List ℕ → ℕ → ℕ → Stretch
+abbrev pub digits_from : List ℕ → ℕ → ℕ → Part
 digits_from text most i = record { from = i; to = i + min (length (take_while is_ascii_digit (drop i text))) most }
 
-abbrev pub first_digits : List ℕ → ℕ → Option Stretch
+abbrev pub first_digits : List ℕ → ℕ → Option Part
 first_digits text most = option_map (digits_from text most) (position is_ascii_digit text)

@@ -7,16 +7,16 @@ use std::alloc::{AllocError, Global};
 
 /// The places `from` to `to` of a text.
 #[derive(Clone, Copy)]
-pub struct Stretch {
+pub struct Part {
     pub from: usize,
     pub to: usize,
 }
 
-/// How a text was changed: the stretch `old` of the first stands where `new` stands in the second.
+/// How a text was changed: the part `old` of the first stands where `new` stands in the second.
 #[derive(Clone, Copy)]
 pub struct Change {
-    pub old: Stretch,
-    pub new: Stretch,
+    pub old: Part,
+    pub new: Part,
 }
 
 /// How many bytes two texts have in common at their beginning.
@@ -53,11 +53,11 @@ pub fn difference(old: &[u8], new: &[u8]) -> Option<Change>
     let from = common_front(old, new);
     let back = common_back(&old[from..], &new[from..]);
     Some(Change {
-        old: Stretch {
+        old: Part {
             from,
             to: old.len() - back,
         },
-        new: Stretch {
+        new: Part {
             from,
             to: new.len() - back,
         },
@@ -78,16 +78,16 @@ fn line_behind(text: &[u8]) -> usize
     text.iter().take_while(|b| **b != b'\n').count()
 }
 
-/// The whole lines that a stretch of the text touches, but for the last newline.
+/// The whole lines that a part of the text touches, but for the last newline.
 #[tactic(auto, using(crate::proofs::Runs::before_le, crate::proofs::Runs::behind_le))]
-pub fn lines_of(text: &[u8], part: Stretch) -> Stretch
+pub fn lines_of(text: &[u8], part: Part) -> Part
     requires ordered { part.from ≤ part.to }
     requires within { part.to ≤ length text.now }
     ensures { Lines text.now part result }
 {
     let before = line_before(&text[..part.from]);
     let behind = line_behind(&text[part.to..]);
-    Stretch {
+    Part {
         from: part.from - before,
         to: part.to + behind,
     }
@@ -110,13 +110,13 @@ fn digits_at_front(text: &[u8]) -> usize
 }
 
 /// The first digits in a text, at most `most` of them; `None` where it has none.
-pub fn digits_in(text: &[u8], most: usize) -> Option<Stretch>
+pub fn digits_in(text: &[u8], most: usize) -> Option<Part>
     ensures value { result ≡ first_digits text.now most }
     ensures within { IfSome result (λ s. (s.from ≤ s.to) × (s.to ≤ length text.now)) }
 {
     let from = first_digit(text)?;
     let run = digits_at_front(&text[from..]);
-    Some(Stretch {
+    Some(Part {
         from,
         to: from + run.min(most),
     })

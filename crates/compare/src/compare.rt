@@ -1,7 +1,7 @@
 //! Two files compared: what the person who releases a build does by hand.
 ghost use Rattle.std.specs.Prelude.{◌≤◌};
 
-use crate::change::{Change, Stretch, difference};
+use crate::change::{Change, Part, difference};
 use crate::files::read;
 use crate::lines::write_lines;
 use crate::memory::memory;
@@ -114,7 +114,7 @@ fn write_read_back<'v, 't, W: Write>(
     requires { change.new.from ≤ change.new.to }
 {
     let Change {
-        old: Stretch { from, to },
+        old: Part { from, to },
         new: written,
     } = change;
     if written.to - written.from > MOST_WINDOW {

@@ -1,5 +1,5 @@
 //! Edits to a number in one file, call by call.
-use crate::change::{Stretch, digits_in, other_digits};
+use crate::change::{Part, digits_in, other_digits};
 use crate::files::read;
 use crate::memory::memory;
 use crate::told::{MarkedView, place_in, refused, tell};
@@ -27,11 +27,11 @@ pub fn run<R: Files + AllocGlobal, W: Write>(rt: &R, file: &str, out: &mut W) ->
 fn edit<'b, 'a, W: Write>(
     shelf: &mut MarkedShelf<'b, 'a>,
     len: usize,
-    part: Stretch,
+    part: Part,
     digits: &[u8],
     out: &mut W,
 ) -> Result<()> {
-    let Stretch { from, to } = part;
+    let Part { from, to } = part;
     let whole = shelf.take(0, len).map_err(refused)?;
     write_made(shelf.view(), whole, "take: the whole file", out)?;
     let old = shelf.cut(whole, from, to).map_err(refused)?;
@@ -97,7 +97,7 @@ fn write_same<'v, W: Write>(
 fn write_read_back<'v, W: Write>(
     view: MarkedView<'v>,
     d: u32,
-    part: Stretch,
+    part: Part,
     e: u32,
     out: &mut W,
 ) -> Result<()> {

@@ -1,11 +1,9 @@
 //! Files that are read whole.
 use anyhow::{Context, Result, ensure};
+use refusal::limits::MOST_TEXT;
 use std::fs::File;
 use std::io::Read;
 use std::rt::Files;
-
-/// The longest text that is a document.
-const MOST_TEXT: usize = 1048576;
 
 /// The text of the file at `path`, where it is no longer than a document.
 pub fn read<R: Files + AllocGlobal>(rt: &R, path: &str) -> Result<Vec<u8>> {

@@ -1,17 +1,17 @@
 //! The lines of a change side by side, as `diff` writes them in two columns.
 ghost use Rattle.std.specs.Prelude.{◌≤◌, length};
 
-use crate::change::{Change, Stretch, lines_of};
+use crate::change::{Change, Part, lines_of};
 use anyhow::Result;
 use std::alloc::{AllocError, Global};
 use std::io::Write;
 
 /// The whole lines that a part of the text touches.
-fn touched<'t>(heap: Global, text: &'t [u8], part: Stretch) -> Result<Vec<&'t [u8]>, AllocError>
+fn touched<'t>(heap: Global, text: &'t [u8], part: Part) -> Result<Vec<&'t [u8]>, AllocError>
     requires ordered { part.from ≤ part.to }
     requires within { part.to ≤ length text.now }
 {
-    let Stretch { from, to } = lines_of(text, part);
+    let Part { from, to } = lines_of(text, part);
     // behind the last newline of a text stands no line
     if from == text.len() {
         return Ok(Vec::new(heap));

@@ -15,7 +15,7 @@ pub fn count(n: u64) -> usize
 }
 
 /// Writes the digits of `n` at the start of `out`, and answers how many there are. What lies behind them keeps its bytes.
-/// Refused with SMALL BUFFER, and `out` as it was, exactly where `out` is shorter than the digits.
+/// Refused with SMALL BUFFER, and `out` as it was, exactly where `out` is shorter than the digits. Takes constant time.
 pub fn write(n: u64, out: &mut [u8]) -> Result<usize, Refusal>
     ensures { Writes (of_room (length (decimal n)) (length out.old)) (decimal n) out.old out.new result }
 {

@@ -4,6 +4,7 @@ ghost use Rattle.std.specs.List.{between};
 ghost use Rattle.shelf_view.specs.Marked.{fingerprint};
 ghost use Rattle.measured.specs.Stamps.{stamped, HasText, WritesBytes};
 
+use refusal::limits::{MOST_PLACES, MOST_RECORDS};
 use refusal::{Refusal, write_start};
 use shelf_memory::memory::{Memory, Sizes};
 use std::alloc::Global;
@@ -15,9 +16,9 @@ const STAMP: &[u8] = b"gatsomev";
 
 /// The most that a shelf uses.
 const SIZES: Sizes = Sizes {
-    records: 65536,
+    records: MOST_RECORDS,
     added: 8,
-    places: 4095,
+    places: MOST_PLACES,
 };
 
 /// Takes the first `len` bytes of the build text as a document, and writes the stamp at each place of it, each time on the

@@ -1,6 +1,7 @@
 //! Reading netstrings, and numbers written like their lengths.
 ghost use Rattle.std.specs.Prelude.{◌≡◌, ◌<◌, ◌++◌, decimal, MatchOption, MatchResult};
 ghost use Rattle.refusal.specs.declared.Refusal.TheVariants.{BadNetstring};
+ghost use Rattle.netstring.specs.declared.read.TheConstants.{MOST_NUMBER};
 ghost use Rattle.netstring.specs.Netstring.{NoRun, Run, NoNumber, Number, NoNetstringAt, NetstringAt};
 
 use refusal::Refusal;
@@ -8,7 +9,12 @@ use refusal::Refusal;
 /// The greatest number that stands as an argument: seven digits.
 pub const MOST_NUMBER: usize = 9_999_999;
 
-/// What a netstring holds, and the place behind it: a place and no rest, since a script's calls are told by their places.
+/// The limit as a number, to which the constant is held: definitions name the constant.
+pub fn limit_stands()
+    ensures { MOST_NUMBER ≡ 9999999 }
+{}
+
+/// What a netstring holds, and the place behind it, by which a script tells where its next command begins.
 #[derive(Clone, Copy)]
 pub struct Netstring<'t> {
     pub content: &'t [u8],
@@ -16,8 +22,7 @@ pub struct Netstring<'t> {
 }
 
 // The number of at most `limit` that begins with `front`, goes on with the digits at the start of `text` and ends
-// there, and what lies behind. A number that overflows is above every limit. A loop over the rest and no iterator chain: each
-// turn takes a digit by a pattern, and `?` ends it where the number overflows.
+// there, and what lies behind. A number that overflows is above every limit.
 fn further_digits(front: usize, text: &[u8], limit: usize) -> Option<(usize, &[u8])>
     requires { 0 < front }
     ensures { MatchOption result (NoRun (decimal front ++ text.now) limit) (λ p. Run (decimal front ++ text.now) limit p.0 p.1.now) }
@@ -43,6 +48,7 @@ fn run_at(text: &[u8], limit: usize) -> Option<(usize, &[u8])>
 }
 
 /// The number that `text` is, of one to seven digits and written like a length: no leading zeros, nothing else.
+/// Takes constant time.
 pub fn number(text: &[u8]) -> Option<usize>
     ensures { MatchOption result (NoNumber text.now) (λ n. Number text.now n) }
 {
@@ -70,7 +76,7 @@ fn netstring_at<'t>(text: &'t [u8], at: usize) -> Option<Netstring<'t>>
 /// The netstring that stands in `text` at the place `at`. A length may have any number of digits. Refused with BAD NETSTRING
 /// exactly where no netstring stands there.
 ///
-/// Takes time in the number of digits.
+/// Takes constant time: a content is borrowed, and not gone through.
 pub fn read<'t>(text: &'t [u8], at: usize) -> Result<Netstring<'t>, Refusal>
     ensures { MatchResult result (λ n. NetstringAt text.now at n.content.now n.next) (λ e. (e ≡ BadNetstring) × NoNetstringAt text.now at) }
 {

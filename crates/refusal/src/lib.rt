@@ -26,7 +26,7 @@ pub enum Refusal {
 }
 
 impl Refusal {
-    /// The refusal's number: a method and no `From`, since the documents call it so.
+    /// The refusal's number. Takes constant time.
     pub fn number(self) -> u8
         ensures { result ≡ number_of self }
     {

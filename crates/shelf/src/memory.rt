@@ -10,8 +10,8 @@ pub fn memory(heap: Global) -> Result<Memory, AllocError>
     ensures { IfOk result (Holds (record { records = 1024; added = 16384; places = 64 })) }
 {
     let sizes = Sizes {
-        records: 1024,
-        added: 16384,
+        records: 1_024,
+        added: 16_384,
         places: 64,
     };
     Memory::new(heap, sizes)

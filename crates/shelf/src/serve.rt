@@ -1,6 +1,7 @@
 //! A script from a reader, its answers to a writer.
-ghost use Rattle.std.specs.Prelude.{◌≢◌, IfErr};
+ghost use Rattle.std.specs.Prelude.{◌≡◌, ◌≢◌, IfErr};
 ghost use Rattle.std.specs.IoError.{error_kind};
+ghost use Rattle.shelf.specs.declared.serve.TheConstants.{MOST_SCRIPT};
 ghost use Rattle.shelf.specs.Serving.{Served};
 
 use script::run::run_all;
@@ -10,7 +11,12 @@ use std::io::{ErrorKind, Read, Write};
 use text_shelf::named::MarkedShelf;
 
 /// So many bytes of a script are read.
-const MOST_SCRIPT: u64 = 16384;
+const MOST_SCRIPT: u64 = 16_384;
+
+/// The limit as a number, to which the constant is held: definitions name the constant.
+pub fn limit_stands()
+    ensures { MOST_SCRIPT ≡ 16384 }
+{}
 
 /// Runs the script that `input` gives, its first `MOST_SCRIPT` bytes, and writes the answers to `out`. Where it cannot be read, or
 /// there is no memory to hold it, nothing is run; where a write fails, the last command was run, and not all of its answer

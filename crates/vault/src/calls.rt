@@ -4,6 +4,7 @@ ghost use Rattle.zemor.specs.Values.{row};
 ghost use Rattle.zemor.specs.Written.{bytes_of};
 ghost use Rattle.refusal.specs.Writing.{Writes, of_room};
 ghost use Rattle.shelf_view.specs.Marked.{fingerprint as fingerprint_of, written, in_part, ReadsBack};
+ghost use Rattle.vault.specs.declared.calls.TheConstants.{MOST_SCRIPT, RECORDS, ADDED, PLACES};
 ghost use Rattle.vault.specs.Boundary.{Tells, TellsRun, of_read_back, Runs};
 
 use crate::answer::{VaultAnswer, VaultRun};
@@ -18,16 +19,24 @@ use text_shelf::shelf::Shelf;
 use zemor::text::fingerprint;
 
 /// The longest script that is run.
-const MOST_SCRIPT: usize = 16384;
+const MOST_SCRIPT: usize = 16_384;
 
 /// How many records a script's shelf has.
-const RECORDS: usize = 1024;
+const RECORDS: usize = 1_024;
 
 /// How many added bytes.
-const ADDED: usize = 16384;
+const ADDED: usize = 16_384;
 
 /// How many places.
 const PLACES: usize = 64;
+
+/// The limits as numbers, to which the constants are held: definitions name the constants.
+pub fn limits_stand()
+    ensures script { MOST_SCRIPT ≡ 16384 }
+    ensures records { RECORDS ≡ 1024 }
+    ensures added { ADDED ≡ 16384 }
+    ensures places { PLACES ≡ 64 }
+{}
 
 /// Writes the sixteen bytes of a text's fingerprint at the start of `out`. Refused with SMALL BUFFER, and `out` as it was,
 /// exactly where they do not fit. Takes time in the length of the text.
