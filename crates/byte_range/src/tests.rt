@@ -1,3 +1,4 @@
+//! A shelf over the least and the greatest byte, run.
 use crate::range::ByteRange;
 use monoid::Monoid;
 use refusal::Refusal;

@@ -4,7 +4,7 @@ use Rattle.std.proofs.lemmas.Bool.{ltb-false, or_parts}
 use Rattle.std.proofs.lemmas.Bool.Decides.{nat_tests}
 use Rattle.std.proofs.lemmas.List.{drop-drop, take-take}
 use Rattle.std.proofs.lemmas.List.Edits.{length-between}
-use Rattle.std.proofs.lemmas.Slice.{between_is, between_from_start, between_to_end}
+use Rattle.std.proofs.lemmas.Slice.{between_is}
 use Rattle.std.specs.List.{between}
 use Rattle.refusal.specs.declared.Refusal.TheVariants.{BadPart}
 use Rattle.refusal.proofs.Firsts.{passed}
@@ -19,15 +19,13 @@ part_of_part xs f t a b h =
     ∙ ap (drop a) (sym (take-take b (t - f) rest h)) ∙ sym (between_is (take (t - f) rest) a b)
 
 -- what stands before a place of the part f to t, and what stands behind it
-pub before_of_part : (xs : List ℕ) (f t a : ℕ) → a ≤ t - f → between f (f + a) xs ≡ take a (between f t xs)
-before_of_part xs f t a h =
-    ap (λ n. between n (f + a) xs) (let e : f ≡ f + 0 = omega arith in e)
-    ∙ part_of_part xs f t 0 a h ∙ between_from_start (between f t xs) a
+pub before_of_part : (xs : List ℕ) (f t a : ℕ) → a ≤ t - f → between f (f + a) xs ≡ between 0 a (between f t xs)
+before_of_part xs f t a h = ap (λ n. between n (f + a) xs) (let e : f ≡ f + 0 = omega arith in e) ∙ part_of_part xs f t 0 a h
 
-pub behind_of_part : (xs : List ℕ) (f t b : ℕ) → f ≤ t → t ≤ length xs → b ≤ t - f → between (f + b) t xs ≡ drop b (between f t xs)
+pub behind_of_part : (xs : List ℕ) (f t b : ℕ) → f ≤ t → t ≤ length xs → b ≤ t - f → between (f + b) t xs ≡ between b (length (between f t xs)) (between f t xs)
 behind_of_part xs f t b h k w =
     ap (λ n. between (f + b) n xs) (let e : t ≡ f + (t - f) = omega arith in e)
-    ∙ part_of_part xs f t b (t - f) (omega arith) ∙ between_to_end (between f t xs) b (t - f) (omega (arith, length-between xs f t k))
+    ∙ part_of_part xs f t b (t - f) (omega arith) ∙ ap (λ n. between b n (between f t xs)) (sym (length-between xs f t k))
 
 pub lawful_bounds : (text : List ℕ) (a b : ℕ) → a ≤ b → b ≤ length text → of_bounds text a b ≡ None
 lawful_bounds text a b h k = grind (arith, nat_tests)

@@ -35,3 +35,8 @@ pub record IsSlice {V R : Type 0} {kind : _} (s : Text V R kind) (a b : ℕ) (t 
   pub from : t.from ≡ s.from + a
   pub to : t.to ≡ s.from + b
   pub bytes : bytes_in t ≡ between a b (bytes_in s)
+
+-- what stands before the part a to b of the slice s, and what stands behind it
+pub record Sides {V R : Type 0} {kind : _} (s : Text V R kind) (a b : ℕ) (p : Text V R kind × Text V R kind) : Type 0 where
+  pub before : IsSlice s 0 a p.0
+  pub behind : IsSlice s b (length (bytes_in s)) p.1

@@ -30,7 +30,7 @@ pub struct Span {
     pub to: u32,
 }
 
-// by hand, as rope's `View`
+// by hand, as `RopeView`
 impl<'v, M: Monoid> Clone for Text<'v, M> {
     ghost is_clone = { λ x y. y ≡ x };
 
@@ -44,11 +44,11 @@ impl<'v, M: Monoid> Clone for Text<'v, M> {
 impl<'v, M: Monoid> Copy for Text<'v, M> {}
 
 impl<'v, M: Monoid> Text<'v, M> {
-    ghost use Rattle.std.specs.Prelude.{◌+◌, take, drop, slice_index};
+    ghost use Rattle.std.specs.Prelude.{◌+◌, slice_index};
     ghost use Rattle.monoid.specs.Monoid.{fold_of};
     ghost use Rattle.refusal.specs.Refusals.{Answers};
     ghost use Rattle.refusal.specs.Writing.{Writes, of_room};
-    ghost use Rattle.rope_read.specs.Texts.{bytes_in, of_bounds, of_place, IsSlice};
+    ghost use Rattle.rope_read.specs.Texts.{bytes_in, of_bounds, of_place, IsSlice, Sides};
 
     /// The first `len` bytes of the text at a root.
     pub(crate) fn front(view: RopeView<'v, M>, root: Root, len: u32) -> Text<'v, M>
@@ -109,7 +109,7 @@ impl<'v, M: Monoid> Text<'v, M> {
 
     /// What stands before its part `a` to `b`, and what stands behind it. Refused as that part. Takes constant time.
     pub fn around(self, a: usize, b: usize) -> Result<(Text<'v, M>, Text<'v, M>), Refusal>
-        ensures { Answers (of_bounds (bytes_in self.entry) a b) (λ p. (bytes_in p.0 ≡ take a (bytes_in self.entry)) × (bytes_in p.1 ≡ drop b (bytes_in self.entry))) result }
+        ensures { Answers (of_bounds (bytes_in self.entry) a b) (Sides self.entry a b) result }
     {
         self.part(a, b)?;
         let (a, b) = (a as u32, b as u32);

@@ -1,3 +1,4 @@
+//! Trees, run.
 ghost use Rattle.std.specs.Prelude.{◌≡◌, true};
 ghost use Rattle.rope.specs.Arena.{rooted};
 

@@ -1,5 +1,5 @@
 -- Calls made one by one.
-use Rattle.std.proofs.Common.{◌≡◌, ℕ, true, ◌≤◌, leb, List, [], ◌∷◌, length, Ok, Err, Some, None, Option, Result, Bor, refl, ap, ◌∙◌, arith}
+use Rattle.std.proofs.Common.{sym, ap, ◌≡◌, ℕ, true, ◌≤◌, leb, List, [], ◌∷◌, length, Ok, Err, Some, None, Option, Result, Bor, refl, ap, ◌∙◌, arith}
 use Rattle.std.proofs.lemmas.Bool.Decides.{nat_tests}
 use Rattle.rope.specs.Arena.{Root}
 use Rattle.rope.specs.declared.record.Record.{Record}
@@ -9,7 +9,9 @@ use Rattle.refusal.specs.declared.Refusal.TheVariants.{NoDocument}
 use Rattle.text_shelf.specs.Shelves.{Fresh, parts, brought, measures, strings}
 use Rattle.text_shelf.specs.Calls.{every_shelf, reason}
 use Rattle.text_shelf.specs.Reaches.{Reached, fresh, called, used_of}
-use Rattle.text_shelf.specs.Steps.{Stepped, Steps, made}
+use Rattle.text_shelf.specs.Steps.{Stepped, Steps, made, Back}
+use Rattle.text_shelf.specs.declared.draft.Draft.{Draft}
+use Rattle.shelf_promise.specs.Hands.{IsOwn}
 use Rattle.text_shelf.proofs.Appending.{count_texts}
 use Rattle.text_shelf.specs.declared.call.Call.TheVariants.{Open, Add, Put, Cut, Seal}
 use Rattle.text_shelf.specs.declared.call.Answer.{Answer}
@@ -45,3 +47,8 @@ cut_refused s t r step =
     let beyond : leb (length (strings (parts s)).texts) 4294967295 ≡ true = grind (arith, nat_tests) in
     by_reason s t r (reason (brought (parts s)) (measures (parts s)) (strings (parts s)) (Cut 4294967295 0 0)) (rw beyond)
     step
+
+-- what a refused seal hands back
+pub own_back : (d : Draft) (id : DraftId) (r : Result ℕ (Refusal × Draft)) → id ≡ d.id → Back d r → IsOwn id r
+own_back d id (Ok n) e h = tt
+own_back d id (Err (why, back)) e h = ap (λ z. z.id) h ∙ sym e

@@ -1,9 +1,8 @@
 //! Calls made one by one, with the tokens that they hand out, and what that promises: an example.
 ghost use Rattle.std.specs.Prelude.{◌≡◌, Err};
 ghost use Rattle.refusal.specs.declared.Refusal.TheVariants.{NoDocument};
-ghost use Rattle.text_shelf.specs.Calls.{every_shelf};
-ghost use Rattle.text_shelf.specs.Reaches.{Reached, used_of};
-ghost use Rattle.shelf_promise.specs.Hands.{calls_made, answers_given};
+ghost use Rattle.text_shelf.specs.Reaches.{used_of};
+ghost use Rattle.shelf_promise.specs.Hands.{ReachedBy, IsOwn};
 
 use monoid::Monoid;
 use refusal::Refusal;
@@ -33,8 +32,9 @@ pub fn by_hand<'b, 'a, M: Monoid>(
     mark: u32,
     text: &[u8],
 ) -> Made<'b, 'a, M>
-    ensures reached { Reached every_shelf (used_of build.now added.old records.old places.old mark) (calls_made result.opened text.entry) (answers_given result) result.shelf }
+    ensures reached { ReachedBy (used_of build.now added.old records.old places.old mark) text.entry result }
     ensures refused { result.cut ≡ Err NoDocument }
+    ensures back { IsOwn result.opened result.sealed }
 {
     let mut shelf = Shelf::new(build, added, records, places, mark);
     let Ok(draft) = shelf.open() else {

@@ -2,7 +2,7 @@
 use Rattle.std.proofs.Common.{◌≡◌, ℕ, ◌<◌, ◌≤◌, List, [], ◌∷◌, ◌++◌, length, take, drop, Some, None, Ok, Err, Option, Result, unwrap_or, sym, refl, ap, ◌∙◌, subst, arith}
 use Rattle.std.proofs.lemmas.Bool.Decides.{nat_tests}
 use Rattle.std.proofs.lemmas.Grind.{common_steps}
-use Rattle.monoid.specs.Monoid.{fold_of}
+use Rattle.monoid.specs.Monoid.{Model, fold_of}
 use Rattle.monoid.specs.declared.line_column.LineColumn.{LineColumn}
 use Rattle.monoid.specs.declared.pair.Pair.{Pair}
 use Rattle.monoid.proofs.Folds.{fold_append}
@@ -17,12 +17,18 @@ use Rattle.zemor.specs.Laws.{lawful}
 use Rattle.zemor.proofs.Writing.{hex_back}
 use Rattle.refusal.specs.Writing.{Writes, of_room}
 use Rattle.refusal.proofs.Room.{long_enough}
-use Rattle.rope_read.specs.Texts.{bytes_in, bad_part, of_bounds}
+use Rattle.rope_read.specs.Texts.{bytes_in, whole_bytes, bad_part, of_bounds, IsSlice}
+use Rattle.std.specs.List.{between}
+use Rattle.rope.specs.Memory.{seen}
+use Rattle.refusal.specs.Refusals.{Answers}
 use Rattle.rope_read.specs.declared.text.Text.{Text}
+use Rattle.rope_read.specs.declared.whole.Whole.{Whole}
+use Rattle.shelf_view.specs.Places.{Lies, IsDocument, IsPart}
+use Rattle.shelf_view.proofs.Placing.{document_text}
 use Rattle.refusal.proofs.Firsts.{passed, first_not}
 use Rattle.shelf_view.specs.Questions.{of_document, of_part}
 use Rattle.shelf_view.specs.State.{State, Shelved, state_of, text_at, unknown}
-use Rattle.shelf_view.specs.Marked.{marked, fingerprint, written, in_part, in_between, GivesDigits, earlier, misshapen, none_gives, ReadsBack, of_buffer}
+use Rattle.shelf_view.specs.Marked.{marked, fingerprint, written, in_part, in_between, GivesDigits, earlier, misshapen, none_gives, ReadsBack}
 use Rattle.refusal.specs.declared.Refusal.{Refusal}
 use Rattle.refusal.specs.declared.Refusal.TheVariants.{NoDocument, BadPart, SmallBuffer}
 use Rattle.shelf_view.proofs.Marking.{first_half}
@@ -47,25 +53,25 @@ module _ (digits : List ℕ) (x front back : Sl2) (is : written x ≡ digits) wh
   by_digits w g = record { short = g.short; same = ap written g.whole ∙ is }
 
 module _ (old digits : List ℕ) (front back : Sl2) where
-  pub refused_buffer : length old < 5 → ReadsBack (of_buffer (length old)) (in_between front back) digits old old (Err SmallBuffer)
+  pub refused_buffer : length old < 5 → ReadsBack (of_room 5 (length old)) (in_between front back) digits old old (Err SmallBuffer)
   refused_buffer k = (earlier (grind (arith, common_steps, nat_tests)), refl)
 
-  enough : 5 ≤ length old → of_buffer (length old) ≡ None
+  enough : 5 ≤ length old → of_room 5 (length old) ≡ None
   enough k = grind (arith, common_steps, nat_tests)
 
   module _ (k : 5 ≤ length old) where
-    pub refused_form : (e : Refusal) → ReadHex digits (Err e) → ReadsBack (of_buffer (length old)) (in_between front back) digits old old (Err e)
+    pub refused_form : (e : Refusal) → ReadHex digits (Err e) → ReadsBack (of_room 5 (length old)) (in_between front back) digits old old (Err e)
     refused_form e r =
-        subst (λ z. ReadsBack (of_buffer (length old)) (in_between front back) digits old old (Err z)) (sym r.0) (misshapen (enough k) r.1, refl)
+        subst (λ z. ReadsBack (of_room 5 (length old)) (in_between front back) digits old old (Err z)) (sym r.0) (misshapen (enough k) r.1, refl)
 
     module _ (x : Sl2) (r : ReadHex digits (Ok x)) where
-      pub refused_window : (e : Refusal) → ReadBack front back x (Err e) → ReadsBack (of_buffer (length old)) (in_between front back) digits old old (Err e)
+      pub refused_window : (e : Refusal) → ReadBack front back x (Err e) → ReadsBack (of_room 5 (length old)) (in_between front back) digits old old (Err e)
       refused_window e none =
-          subst (λ z. ReadsBack (of_buffer (length old)) (in_between front back) digits old old (Err z)) (sym none.0)
+          subst (λ z. ReadsBack (of_room 5 (length old)) (in_between front back) digits old old (Err z)) (sym none.0)
           (none_gives (enough k) r.0 (λ w g. none.1 w (by_value digits x front back r.2 w g)), refl)
 
       pub told : (w : Window) (text new : List ℕ) (o : Result ℕ Refusal) → ReadBack front back x (Ok w) → text ≡ window_text w
-          → Writes (of_room (length text) (length old)) text old new o → ReadsBack (of_buffer (length old)) (in_between front back) digits old new o
+          → Writes (of_room (length text) (length old)) text old new o → ReadsBack (of_room 5 (length old)) (in_between front back) digits old new o
       told w text new (Ok m) some is h = (
         enough k,
         r.0,
@@ -100,3 +106,20 @@ pub part_is : (s : State) (d a b : ℕ) (text : List ℕ) → text ≡ text_at s
 part_is s d a b text is h =
     let p = passed (unknown s d) NoDocument [] h in
     first_not NoDocument ((bad_part (text_at s d) a b, BadPart) ∷ []) p.0 ∙ ap (λ t. of_bounds t a b) (sym is)
+
+-- a part of a document, from its slice
+pub part_told : {V R : Type 0} {kind : _} {m : Model V R} (s : Shelved R) (d a b : ℕ) (w : Whole V R kind) (text : Text V R kind) (r : Result (Text V R kind) Refusal)
+    → of_document (state_of s) d ≡ None → IsDocument m s d w → (text.view ≡ w.view) × (text.root ≡ w.root) → (text.from ≡ 0) × (text.to ≡ length (whole_bytes w)) → bytes_in text ≡ whole_bytes w
+    → Answers (of_bounds (bytes_in text) a b) (IsSlice text a b) r → Answers (of_part (state_of s) d a b) (IsPart m s d a b) r
+part_told {m = m} s d a b w text (Ok t) none is place bounds value h =
+    let slice = h.1 in (
+      part_is (state_of s) d a b (bytes_in text) (value ∙ document_text is) none ∙ h.0,
+      record {
+        memory = ap seen (slice.view ∙ place.0) ∙ is.memory;
+        lies = subst (Lies m s d) (sym (slice.root ∙ place.1)) is.lies;
+        from_is = omega (arith, slice.from, bounds.0);
+        to_is = omega (arith, slice.to, bounds.0);
+        text_is = slice.bytes ∙ ap (between a b) (value ∙ document_text is);
+      },
+    )
+part_told s d a b w text (Err e) none is place bounds value h = part_is (state_of s) d a b (bytes_in text) (value ∙ document_text is) none ∙ h

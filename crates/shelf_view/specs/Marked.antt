@@ -1,5 +1,6 @@
 -- The questions of a marked shelf, which keeps the pair of Zémor's product and line-column: its fingerprints.
-use Rattle.std.specs.Prelude.{◌≡◌, ℕ, ◌<◌, ◌≤◌, List, [], ◌∷◌, ◌++◌, length, take, drop, Some, None, Ok, Err, Option, Result, nat_lt}
+use Rattle.std.specs.List.{between}
+use Rattle.std.specs.Prelude.{◌≡◌, ℕ, ◌+◌, ◌<◌, ◌≤◌, List, [], ◌∷◌, ◌++◌, length, take, drop, Some, None, Ok, Err, Option, Result, nat_lt}
 use Rattle.monoid.specs.Monoid.{Model, fold_of}
 use Rattle.monoid.specs.LineColumnValues.{line_column_model}
 use Rattle.monoid.specs.Pair.{pair_model}
@@ -13,6 +14,7 @@ use Rattle.zemor.specs.declared.matrix.Sl2.{Sl2}
 use Rattle.refusal.specs.Refusals.{first}
 use Rattle.refusal.specs.declared.Refusal.{Refusal}
 use Rattle.refusal.specs.declared.Refusal.TheVariants.{SmallBuffer, BadFingerprint, NoWindow}
+use Rattle.shelf_view.specs.State.{State, text_at}
 use Rattle.shelf_view.specs.declared.sameness.Sameness.{Sameness}
 use Rattle.shelf_view.specs.declared.sameness.Sameness.TheVariants.{Different, Equal, Alike}
 
@@ -31,6 +33,10 @@ abbrev pub Compares : ℕ → List ℕ → List ℕ → Sameness → Type 0
 Compares n s t Different = ¬ (fingerprint s ≡ fingerprint t)
 Compares n s t Equal = (n ≤ 5) × (fingerprint s ≡ fingerprint t) × (s ≡ t)
 Compares n s t Alike = (5 < n) × (fingerprint s ≡ fingerprint t)
+
+-- what is told of the n bytes from a in document d and the n bytes from b in document e
+abbrev pub ComparesIn : State → ℕ → ℕ → ℕ → ℕ → ℕ → Sameness → Type 0
+ComparesIn s d a e b n r = Compares n (between a (a + n) (text_at s d)) (between b (b + n) (text_at s e)) r
 
 -- the fingerprint that a window w gives: in the place of the part a to b of the text,
 abbrev pub in_part : List ℕ → ℕ → ℕ → List ℕ → Sl2
@@ -58,7 +64,3 @@ ReadsBack why whole digits old new (Ok n) =
     (why ≡ None) × WellFormed digits
     × ((w : List ℕ) × (GivesDigits whole digits w × ((v : List ℕ) → GivesDigits whole digits v → v ≡ w) × (n ≡ length w) × (new ≡ w ++ drop n old)))
 ReadsBack why whole digits old new (Err e) = Unread why whole digits e × (new ≡ old)
-
--- why a window is not written, where the buffer has n bytes
-abbrev pub of_buffer : ℕ → Option Refusal
-of_buffer n = first ((nat_lt n 5, SmallBuffer) ∷ [])

@@ -33,6 +33,10 @@ pub record IsDraft {V R : Type 0} {kind : _} (m : Model V R) (s : Shelved R) (w 
   pub memory : seen w.view ≡ s.arena
   pub drafts : Drafts m s w.root
 
--- t is the part a to b of document d
-pub record IsPart {V R : Type 0} {kind : _} (s : Shelved R) (d a b : ℕ) (t : Text V R kind) : Type 0 where
+-- t is the part a to b of document d: it lies there, and has the bytes between
+pub record IsPart {V R : Type 0} {kind : _} (m : Model V R) (s : Shelved R) (d a b : ℕ) (t : Text V R kind) : Type 0 where
+  pub memory : seen t.view ≡ s.arena
+  pub lies : Lies m s d t.root
+  pub from_is : t.from ≡ a
+  pub to_is : t.to ≡ b
   pub text_is : bytes_in t ≡ between a b (text_at (state_of s) d)

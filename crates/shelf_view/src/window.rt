@@ -1,6 +1,7 @@
 //! Reading back what stands between two texts that are known by their fingerprints.
 ghost use Rattle.std.specs.Prelude.{length};
-ghost use Rattle.shelf_view.specs.Marked.{in_between, of_buffer, ReadsBack};
+ghost use Rattle.refusal.specs.Writing.{of_room};
+ghost use Rattle.shelf_view.specs.Marked.{in_between, ReadsBack};
 
 use refusal::{Refusal, write_start};
 use zemor::matrix::Sl2;
@@ -11,7 +12,7 @@ use zemor::window::ops::read_back;
 /// Refused with SMALL BUFFER where `out` is shorter than five bytes, then with BAD FINGERPRINT where the digits are not well
 /// formed, then with NO WINDOW exactly where no window gives the fingerprint; `out` is then as it was. Takes constant time.
 pub fn read_between(front: Sl2, digits: &[u8], back: Sl2, out: &mut [u8]) -> Result<usize, Refusal>
-    ensures { ReadsBack (of_buffer (length out.old)) (in_between front back) digits.now out.old out.new result }
+    ensures { ReadsBack (of_room 5 (length out.old)) (in_between front back) digits.now out.old out.new result }
 {
     if out.len() < 5 {
         return Err(Refusal::SmallBuffer);

@@ -9,16 +9,23 @@ use Rattle.refusal.specs.declared.Refusal.{Refusal}
 use Rattle.text_shelf.specs.Rules.{Rules}
 use Rattle.text_shelf.specs.Shelves.{Parts, Fresh, parts}
 use Rattle.text_shelf.specs.Steps.{Stepped, StepsBy}
-use Rattle.text_shelf.specs.Reaches.{Reached, fresh, called, used_of, Untouched, More, Spares}
+use Rattle.text_shelf.specs.Reaches.{Reached, fresh, called, Went, start, one_more, used_of, Untouched, More, Spares}
 use Rattle.text_shelf.specs.declared.call.Answer.{Answer}
 use Rattle.text_shelf.specs.declared.shelf.Shelf.{Shelf}
+
+-- calls made on a shelf go behind all that it was reached by
+pub more : {C : Type 0} {r : Rules C} {V R : Type 0} {kind : _} {s t : Shelf V R kind} {calls : List C} {answers : List (Result Answer Refusal)} → Went r s calls answers t → More r s calls answers t
+more {r = r} {s = s} start b cs xs h = subst (λ z. Reached r b z (xs ++ []) s) (sym (append-nil cs)) (subst (λ z. Reached r b cs z s) (sym (append-nil xs)) h)
+more {r = r} {s = s} {t = u} (one_more {cs = ds} {xs = ys} {t = t} before c a step) b cs xs h =
+    subst (λ z. Reached r b z (xs ++ (ys ++ (a ∷ []))) u) (append_assoc cs ds (c ∷ []))
+    (subst (λ z. Reached r b ((cs ++ ds) ++ (c ∷ [])) z u) (append_assoc xs ys (a ∷ [])) (called (more before b cs xs h) c a step))
 
 -- calls that are run on a fresh shelf
 module _ {V R : Type 0} {kind : _} (s : Shelf V R kind) (build added : List ℕ) (records : List (Record R)) (places : List Root) (mark : ℕ)
     (f : Fresh (parts s) build added records places mark) where
-  pub fresh_more : {C : Type 0} (r : Rules C) (calls : List C) (answers : List (Result Answer Refusal)) (t : Shelf V R kind) → More r s calls answers t
+  pub fresh_more : {C : Type 0} (r : Rules C) (calls : List C) (answers : List (Result Answer Refusal)) (t : Shelf V R kind) → Went r s calls answers t
       → Reached r (used_of build added records places mark) calls answers t
-  fresh_more r calls answers t more = more _ [] [] (fresh f refl)
+  fresh_more r calls answers t went = more went _ [] [] (fresh f refl)
 
   pub fresh_untouched : (t : Parts V R kind) → Spares (parts s) t → Untouched t added records places
   fresh_untouched t p = record {
@@ -40,9 +47,6 @@ spares_none s = record {
   places = fills_none s.places.used s.places.memory.now;
 }
 
-pub more_none : {C : Type 0} (r : Rules C) {V R : Type 0} {kind : _} (s : Shelf V R kind) → More r s [] [] s
-more_none r s b cs xs h = subst (λ z. Reached r b z (xs ++ []) s) (sym (append-nil cs)) (subst (λ z. Reached r b cs z s) (sym (append-nil xs)) h)
-
 module _ {C : Type 0} (r : Rules C) {V R : Type 0} {kind : _} (o : Parts V R kind) (s t : Shelf V R kind) (c : C) (a : Result Answer Refusal) where
   pub spares_step : (w : Option Refusal) → Stepped r w s c a t → Spares o (parts s) → Spares o (parts t)
   spares_step (Some e) step u = subst (λ z. Spares o (parts z)) (sym step.1) u
@@ -55,12 +59,9 @@ module _ {C : Type 0} (r : Rules C) {V R : Type 0} {kind : _} (o : Parts V R kin
       }
 
 -- the call at place i, whose answer is written there
-pub more_next : {C : Type 0} (r : Rules C) {V R : Type 0} {kind : _} (calls : List C) (xs : List (Result Answer Refusal)) (i : ℕ) (d : C) (a : Result Answer Refusal) (s t u : Shelf V R kind)
-    → i < length calls → i < length xs → More r s (take i calls) (take i xs) t → StepsBy r t (get_or calls i d) a u → More r s (take (i + 1) calls) (take (i + 1) (set xs i a)) u
-more_next r calls xs i d a s t u h k more step b cs ys g =
+pub went_next : {C : Type 0} (r : Rules C) {V R : Type 0} {kind : _} (calls : List C) (xs : List (Result Answer Refusal)) (i : ℕ) (d : C) (a : Result Answer Refusal) (s t u : Shelf V R kind)
+    → i < length calls → i < length xs → Went r s (take i calls) (take i xs) t → StepsBy r t (get_or calls i d) a u → Went r s (take (i + 1) calls) (take (i + 1) (set xs i a)) u
+went_next r calls xs i d a s t u h k before step =
     let c = get_or calls i d in
-    let one = called (more b cs ys g) c a step in
-    subst (λ z. Reached r b (cs ++ z) (ys ++ take (i + 1) (set xs i a)) u) (sym (take_more calls i d h))
-    (subst (λ z. Reached r b (cs ++ (take i calls ++ (c ∷ []))) (ys ++ z) u) (sym (take_more_set xs i a k))
-    (subst (λ z. Reached r b z (ys ++ (take i xs ++ (a ∷ []))) u) (append_assoc cs (take i calls) (c ∷ []))
-    (subst (λ z. Reached r b ((cs ++ take i calls) ++ (c ∷ [])) z u) (append_assoc ys (take i xs) (a ∷ [])) one)))
+    subst (λ z. Went r s z (take (i + 1) (set xs i a)) u) (sym (take_more calls i d h))
+    (subst (λ z. Went r s (take i calls ++ (c ∷ [])) z u) (sym (take_more_set xs i a k)) (one_more before c a step))

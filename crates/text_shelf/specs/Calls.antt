@@ -51,7 +51,7 @@ answer mark s (GiveUp d) = Done
 
 -- NEEDS
 
--- in records: 2 × ⌈n / 64⌉ for a new text of n bytes, 32 × (h + 1) for an edit of texts at MOST_TEXT h high, and both for
+-- in records: 2 × ⌈n / 64⌉ for a new text of n bytes, 32 × (h + 1) for an edit of texts at most h high, and both for
 -- n bytes behind a draft that is h high
 abbrev pub need : Measures → Call → ℕ
 need t (Put text) = text_need (length text.now)
@@ -79,8 +79,8 @@ brings (GiveUp d) = []
 -- HEIGHTS
 
 -- how high the open draft is told before and after a call: a call that is about no draft leaves that; a draft that was
--- just opened is not high, and where one has ended there is none. Add joins a text of at MOST_TEXT 4,096 bytes, which is at
--- MOST_TEXT 6 high, and two texts joined are as high as the higher of them or one higher.
+-- just opened is not high, and where one has ended there is none. Add joins a text of at most 4,096 bytes, which is at
+-- most 6 high, and two texts joined are as high as the higher of them or one higher.
 abbrev pub DraftHeight : Call → ℕ → ℕ → Type 0
 DraftHeight (Put text) h k = k ≡ h
 DraftHeight (Take a b) h k = k ≡ h

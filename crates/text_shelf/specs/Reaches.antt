@@ -34,7 +34,13 @@ pub data Reached {C : Type 0} (r : Rules C) {V R : Type 0} {kind : _} (b : Broug
   called : {cs : List C} {xs : List (Result Answer Refusal)} {s t : Shelf V R kind} → Reached r b cs xs s
       → (c : C) (a : Result Answer Refusal) → StepsBy r s c a t → Reached r b (cs ++ (c ∷ [])) (xs ++ (a ∷ [])) t
 
--- calls that go behind all that a shelf was reached by: on from s they reach t, with these answers
+-- these calls with these answers, made one behind the other on the shelf s itself, leave the shelf t
+pub data Went {C : Type 0} (r : Rules C) {V R : Type 0} {kind : _} (s : Shelf V R kind) : List C → List (Result Answer Refusal) → Shelf V R kind → Type 0 where
+  start : Went r s [] [] s
+  one_more : {cs : List C} {xs : List (Result Answer Refusal)} {t u : Shelf V R kind} → Went r s cs xs t
+      → (c : C) (a : Result Answer Refusal) → StepsBy r t c a u → Went r s (cs ++ (c ∷ [])) (xs ++ (a ∷ [])) u
+
+-- so they go behind all that s was reached by
 abbrev pub More : {C : Type 0} → Rules C → {V R : Type 0} {kind : _} → Shelf V R kind → List C → List (Result Answer Refusal) → Shelf V R kind → Type 0
 More {C} r s calls answers t =
     (b : Brought) (cs : List C) (xs : List (Result Answer Refusal)) → Reached r b cs xs s → Reached r b (cs ++ calls) (xs ++ answers) t
@@ -59,6 +65,7 @@ token s = option_map (λ root. record { id = record { mark = s.mark; count = s.o
 -- stands at its place, and what lies behind keeps its content
 pub record RunInOrder {C : Type 0} (r : Rules C) {V R : Type 0} {kind : _} (s t : Shelf V R kind) (calls : List C) (n : ℕ) (old new : List (Result Answer Refusal)) : Type 0 where
   pub count : n ≡ min (length calls) (length old)
+  pub went : Went r s (take n calls) (take n new) t
   pub reaches : More r s (take n calls) (take n new) t
   pub behind : drop n new ≡ drop n old
   pub spares : Spares (parts s) (parts t)

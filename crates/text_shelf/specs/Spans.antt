@@ -1,6 +1,7 @@
 -- Where the part of a document lies that an edit is about.
 use Rattle.std.specs.Prelude.{◌≡◌, ℕ, ◌≤◌, length}
 use Rattle.monoid.specs.Monoid.{Model}
+use Rattle.rope.specs.Arena.{Root}
 use Rattle.rope_read.specs.declared.text.Span.{Span}
 use Rattle.shelf_view.specs.State.{Shelved, state_of, text_at}
 use Rattle.shelf_view.specs.Places.{Lies}
@@ -12,3 +13,7 @@ pub record Spans {V R : Type 0} (m : Model V R) (s : Shelved R) (d a b : ℕ) (p
   pub to_is : p.to ≡ b
   pub ordered : a ≤ b
   pub within : b ≤ length (text_at (state_of s) d)
+
+-- the part a to b of document d, and the root of document e
+abbrev pub SpliceSpans : {V R : Type 0} → Model V R → Shelved R → ℕ → ℕ → ℕ → ℕ → Span × Root → Type 0
+SpliceSpans m s d a b e p = Spans m s d a b p.0 × Lies m s e p.1

@@ -3,7 +3,8 @@ ghost use Rattle.std.specs.Prelude.{◌≡◌};
 
 use shelf_view::draft_id::DraftId;
 
-/// A draft that is open on some shelf. It is neither `Copy` nor `Drop`: it must be sealed or given up.
+/// A draft that is open on some shelf. It is neither `Copy` nor `Drop`: it ends when it is
+/// sealed or given up, or is handed to a list of calls.
 pub struct Draft {
     pub(crate) id: DraftId,
 }

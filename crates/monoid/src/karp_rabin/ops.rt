@@ -1,3 +1,4 @@
+//! Karp and Rabin's fingerprint as a monoid, and as a group.
 ghost use Rattle.monoid.specs.KarpRabinValues.{karp_rabin_model, inverse_of};
 ghost use Rattle.monoid.specs.KarpRabinLaws;
 

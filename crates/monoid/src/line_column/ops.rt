@@ -1,3 +1,4 @@
+//! Lines and columns as a monoid.
 ghost use Rattle.monoid.specs.LineColumnValues.{line_column_model};
 ghost use Rattle.monoid.specs.LineColumnLaws;
 

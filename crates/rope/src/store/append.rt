@@ -1,3 +1,4 @@
+//! Added text.
 ghost use Rattle.std.specs.Prelude.{◌+◌, ◌≤◌, length};
 ghost use Rattle.rope.specs.Steps.{Addable, Appended};
 

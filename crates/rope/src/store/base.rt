@@ -1,3 +1,4 @@
+//! A store and what it tells of itself.
 ghost use Rattle.std.specs.Prelude.{◌≡◌, ◌-◌, ◌<◌, min, length, take};
 ghost use Rattle.refusal.specs.declared.limits.TheConstants.{MOST_BYTES, MOST_RECORDS};
 ghost use Rattle.rope.specs.Arena.{IsRecord};

@@ -1,3 +1,4 @@
+//! Trees of new texts.
 ghost use Rattle.rope.specs.Steps.{Buildable, Built};
 
 use super::Store;

@@ -1,3 +1,4 @@
+//! New records: leaves, and inner ones.
 ghost use Rattle.rope.specs.Tree.{leaf, node};
 ghost use Rattle.rope.specs.Arena.{part};
 ghost use Rattle.rope.specs.Memory.{arena_of, tree_of};

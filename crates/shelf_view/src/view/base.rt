@@ -1,3 +1,4 @@
+//! A view as a shelf makes it.
 ghost use Rattle.std.specs.Prelude.{◌≡◌, true};
 ghost use Rattle.rope.specs.Memory.{seen};
 ghost use Rattle.shelf_view.specs.Documents.{fine, all_fine, root_in};

@@ -1,10 +1,10 @@
-ghost use Rattle.std.specs.Prelude.{◌≡◌, ◌+◌, length};
-ghost use Rattle.std.specs.List.{between};
+//! Questions of marked shelves.
+ghost use Rattle.std.specs.Prelude.{◌≡◌, length};
 ghost use Rattle.refusal.specs.Refusals.{Answers};
 ghost use Rattle.rope_read.specs.Texts.{bytes_in};
 ghost use Rattle.shelf_view.specs.State.{shown, strings, text_at};
 ghost use Rattle.shelf_view.specs.Questions.{of_copy, of_same};
-ghost use Rattle.shelf_view.specs.Marked.{Compares, in_part, ReadsBack};
+ghost use Rattle.shelf_view.specs.Marked.{Compares, ComparesIn, in_part, ReadsBack};
 
 use super::View;
 use crate::marked::Marked;
@@ -32,7 +32,7 @@ impl<'v> View<'v, Marked> {
     /// Refused with NO DOCUMENT for either number, and then with BAD PART for either part, also where its end fits no number.
     /// Takes time in the heights of the documents.
     pub fn same(&self, d: u32, a: usize, e: u32, b: usize, n: usize) -> Result<Sameness, Refusal>
-        ensures { Answers (of_same (strings self.now) d a e b n) (Compares n (between a (a + n) (text_at (strings self.now) d)) (between b (b + n) (text_at (strings self.now) e))) result }
+        ensures { Answers (of_same (strings self.now) d a e b n) (ComparesIn (strings self.now) d a e b n) result }
     {
         let one = self.document(d)?;
         let other = self.document(e)?;

@@ -1,3 +1,4 @@
+//! The doors of a view: documents, the open draft, and parts.
 ghost use Rattle.refusal.specs.Refusals.{Answers};
 ghost use Rattle.shelf_view.specs.State.{shown, strings};
 ghost use Rattle.shelf_view.specs.Questions.{of_document, of_draft, of_part};
@@ -52,7 +53,7 @@ impl<'v, M: Monoid> View<'v, M> {
     /// The part `a` to `b` of document `d`. Refused with NO DOCUMENT, and then with BAD PART exactly where a ≤ b ≤ length does
     /// not hold. Takes constant time.
     pub fn part(&self, d: u32, a: usize, b: usize) -> Result<Text<'v, M>, Refusal>
-        ensures { Answers (of_part (strings self.now) d a b) (IsPart (shown self.now) d a b) result }
+        ensures { Answers (of_part (strings self.now) d a b) (IsPart M.Monoid.model (shown self.now) d a b) result }
     {
         self.document(d)?.text().part(a, b)
     }

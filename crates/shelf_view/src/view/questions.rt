@@ -1,3 +1,4 @@
+//! Questions of every shelf.
 ghost use Rattle.std.specs.Prelude.{◌≡◌, ◌-◌, length};
 ghost use Rattle.std.specs.List.{between};
 ghost use Rattle.monoid.specs.Monoid.{fold_of};

@@ -1,3 +1,4 @@
+//! Calls that are values, and the token of the open draft.
 ghost use Rattle.std.specs.Prelude.{◌≡◌, ◌↔◌, IsTrue};
 ghost use Rattle.text_shelf.specs.Steps.{Steps};
 ghost use Rattle.text_shelf.specs.Reaches.{token};

@@ -1,3 +1,4 @@
+//! A fresh shelf, and a shelf for reading.
 ghost use Rattle.std.specs.Prelude.{◌≡◌};
 ghost use Rattle.shelf_view.specs.State.{shown};
 ghost use Rattle.text_shelf.specs.Shelves.{parts, shelved, Fresh};
@@ -10,8 +11,8 @@ use rope::store::Store;
 use shelf_view::view::View;
 
 impl<'b, 'a, M: Monoid> Shelf<'b, 'a, M> {
-    /// A fresh shelf, whatever memory is brought. It holds only document 0, the empty text. The memory is lent once, so its
-    /// four kinds are arguments and no struct.
+    /// A fresh shelf over a build text, memory for added text, for records and for documents, whatever is brought of each. It
+    /// holds only document 0, the empty text. Takes constant time.
     pub fn new(
         build: &'b [u8],
         added: &'a mut [u8],
@@ -30,7 +31,7 @@ impl<'b, 'a, M: Monoid> Shelf<'b, 'a, M> {
         }
     }
 
-    /// The shelf for reading: every question is a method of the view.
+    /// The shelf for reading: every question is asked of the view, or of what it hands out. Takes constant time.
     pub fn view(&self) -> View<'_, M>
         ensures { shown result ≡ shelved (parts self.now) }
     {

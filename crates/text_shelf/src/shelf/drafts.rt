@@ -1,3 +1,4 @@
+//! Calls about drafts.
 ghost use Rattle.std.specs.Prelude.{◌≡◌};
 ghost use Rattle.text_shelf.specs.Steps.{Steps, started, done, sealed, ended, Back};
 ghost use Rattle.text_shelf.specs.declared.call.Call.TheVariants.{Open, Add, Seal, GiveUp};
@@ -11,7 +12,8 @@ use rope_keep::lengthen;
 use shelf_view::draft_id::DraftId;
 
 impl<'b, 'a, M: Monoid> Shelf<'b, 'a, M> {
-    /// Starts an empty draft.
+    /// Starts an empty draft, and answers its token. Refused with DRAFT OPEN while one is open, and after 4,294,967,295 drafts.
+    /// Takes constant time.
     pub fn open(&mut self) -> Result<Draft, Refusal>
         ensures { Steps self.old Open (started result) self.new }
     {
@@ -30,7 +32,10 @@ impl<'b, 'a, M: Monoid> Shelf<'b, 'a, M> {
 }
 
 impl Draft {
-    /// Lengthens the draft at its end by `text`.
+    /// Lengthens the draft at its end by `text`. Refused, in this order: STRANGE DRAFT where it is not the one that is open on
+    /// this shelf, TOO LONG where the text has more than 4,096 bytes or the draft would have more than 1,048,576, TEXT FULL,
+    /// RECORDS SHORT (the needs of a new text and of an edit of the draft). Takes time in the length of the text and the height
+    /// of the draft.
     pub fn add<'b, 'a, M: Monoid>(
         &self,
         shelf: &mut Shelf<'b, 'a, M>,
@@ -43,7 +48,8 @@ impl Draft {
         Ok(())
     }
 
-    /// Appends the draft's text as a document, and answers its number. A refusal hands the draft back.
+    /// Appends the draft's text as a document, and answers its number. Refused with STRANGE DRAFT, and then with NUMBERS SPENT;
+    /// the draft is then handed back. Takes constant time.
     pub fn seal<'b, 'a, M: Monoid>(
         self,
         shelf: &mut Shelf<'b, 'a, M>,
@@ -51,7 +57,7 @@ impl Draft {
         ensures step { Steps shelf.old (Seal self.id) (sealed result) shelf.new }
         ensures back { Back self result }
     {
-        // no `map_err(..)?`: the draft goes either back or to its end
+        // the draft goes either back or to its end
         match shelf.draft_to_seal(self.id) {
             Err(why) => Err((why, self)),
             Ok(root) => {
@@ -62,7 +68,8 @@ impl Draft {
         }
     }
 
-    /// Ends the draft with no document; its added bytes stay used. A refusal hands the draft back.
+    /// Ends the draft with no document; its added bytes stay used. Refused with STRANGE DRAFT, and the draft is then handed back.
+    /// Takes constant time.
     pub fn give_up<'b, 'a, M: Monoid>(
         self,
         shelf: &mut Shelf<'b, 'a, M>,
@@ -70,7 +77,6 @@ impl Draft {
         ensures step { Steps shelf.old (GiveUp self.id) (ended result) shelf.new }
         ensures back { Back self result }
     {
-        // no `map_err(..)?`, as in `seal`
         match shelf.draft_to_end(self.id) {
             Err(why) => Err((why, self)),
             Ok(_) => {

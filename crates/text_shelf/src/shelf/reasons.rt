@@ -1,11 +1,12 @@
+//! The reasons to refuse each call: they only read, so a refused call has written nothing.
 ghost use Rattle.std.specs.Prelude.{◌≡◌, ◌≤◌, ⊤};
 ghost use Rattle.refusal.specs.declared.limits.TheConstants.{MOST_TEXT};
 ghost use Rattle.refusal.specs.Refusals.{Answers};
-ghost use Rattle.shelf_view.specs.Places.{Lies, Drafts};
+ghost use Rattle.shelf_view.specs.Places.{Drafts};
 ghost use Rattle.rope_cut.specs.Parts;
 ghost use Rattle.rope_keep.specs.Kept;
 ghost use Rattle.text_shelf.specs.Shelves.{parts, shelved};
-ghost use Rattle.text_shelf.specs.Spans.{Spans};
+ghost use Rattle.text_shelf.specs.Spans.{Spans, SpliceSpans};
 ghost use Rattle.text_shelf.specs.Calls.{bytes, records, place, memory, longer};
 ghost use Rattle.text_shelf.specs.Whys.{why, why_call};
 ghost use Rattle.text_shelf.specs.declared.call.Call.TheVariants.{Put, Take, Cut, Splice, Add, Seal, GiveUp};
@@ -121,7 +122,7 @@ impl<'b, 'a, M: Monoid> Shelf<'b, 'a, M> {
         to: usize,
         other: u32,
     ) -> Result<(Span, Root), Refusal>
-        ensures { Answers (why_call self.now (Splice d from to other)) (λ p. Spans M.Monoid.model (shelved (parts self.now)) d from to p.0 × Lies M.Monoid.model (shelved (parts self.now)) other p.1) result }
+        ensures { Answers (why_call self.now (Splice d from to other)) (SpliceSpans M.Monoid.model (shelved (parts self.now)) d from to other) result }
     {
         let view = self.view();
         let whole = view.document(d)?;

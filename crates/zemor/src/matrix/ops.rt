@@ -1,3 +1,4 @@
+//! Zémor's fingerprint as a monoid, and as a group.
 ghost use Rattle.std.specs.Prelude.{◌≡◌, MatchBool};
 ghost use Rattle.zemor.specs.Values.{sl2, inverse_of};
 ghost use Rattle.zemor.specs.Laws;

@@ -1,3 +1,4 @@
+//! The matrices of the 256 bytes.
 ghost use Rattle.std.specs.Prelude.{◌≡◌};
 ghost use Rattle.zemor.specs.Bits.{byte_product};
 ghost use Rattle.zemor.specs.Values.{sl2};

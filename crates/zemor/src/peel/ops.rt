@@ -1,3 +1,4 @@
+//! Peeling bit by bit.
 ghost use Rattle.std.specs.Prelude.{◌≡◌, ◌+◌, ◌<◌, [], ◌∷◌, ◌++◌};
 ghost use Rattle.zemor.specs.Peeling.{spelled, Peels, First, Tells};
 

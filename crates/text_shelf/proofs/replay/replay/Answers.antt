@@ -13,7 +13,7 @@ returns g c =
     let ran = c.run-calls.ensures in
     record {
       count = ran.count;
-      reached = fresh_more s _ _ _ _ _ f every_shelf (take n c.args.calls.now) (take n c.run-calls.new.answers) t ran.reaches;
+      reached = fresh_more s _ _ _ _ _ f every_shelf (take n c.args.calls.now) (take n c.run-calls.new.answers) t ran.went;
       behind = ran.behind;
       untouched = fresh_untouched s _ _ _ _ _ f (parts t) ran.spares;
       draft = c.token-draft.ensures;

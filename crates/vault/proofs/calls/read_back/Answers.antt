@@ -3,7 +3,8 @@ use Rattle.std.proofs.lemmas.Bool.Decides.{nat_tests}
 use Rattle.std.proofs.lemmas.Grind.{common_steps}
 use Rattle.std.proofs.lemmas.List.{take_rest}
 use Rattle.rope_read.specs.Texts.{bad_part}
-use Rattle.shelf_view.specs.Marked.{fingerprint, in_part, earlier, of_buffer, ReadsBack}
+use Rattle.refusal.specs.Writing.{of_room}
+use Rattle.shelf_view.specs.Marked.{fingerprint, in_part, earlier, ReadsBack}
 use Rattle.refusal.specs.declared.Refusal.TheVariants.{BadPart, SmallBuffer}
 use Rattle.refusal.proofs.Firsts.{first_not}
 use Rattle.shelf_view.proofs.Reading.{part_between}
@@ -25,4 +26,4 @@ returns c =
     let whole = part_between text c.args.from c.args.to c.fingerprint-front.result c.fingerprint-back.result c.fingerprint-front.ensures.value (c.fingerprint-back.ensures.value ∙ ap fingerprint (take_rest text c.args.to)) in
     subst (λ why. ReadsBack why (in_part text c.args.from c.args.to) c.args.digits.now c.args.out.now c.read_between.new.out c.read_between.result)
     (sym (first_not BadPart ((nat_lt n 5, SmallBuffer) ∷ []) good))
-    (subst (λ f. ReadsBack (of_buffer n) f c.args.digits.now c.args.out.now c.read_between.new.out c.read_between.result) whole c.read_between.ensures)
+    (subst (λ f. ReadsBack (of_room 5 n) f c.args.digits.now c.args.out.now c.read_between.new.out c.read_between.result) whole c.read_between.ensures)

@@ -1,4 +1,4 @@
-use Rattle.std.proofs.Common.{arith}
+use Rattle.std.proofs.Common.{refl, arith}
 use Rattle.std.proofs.lemmas.List.Edits.{length-between}
 use Rattle.rope.specs.Arena.{text_of}
 use Rattle.rope.specs.Memory.{seen}
@@ -14,5 +14,14 @@ returns g c =
     let lawful = bounds_lawful (bytes_in t) c.args.a c.args.b none in
     let long = length-between xs t.from t.to t.within in (
       none,
-      (before_of_part xs t.from t.to c.args.a (omega arith), behind_of_part xs t.from t.to c.args.b t.ordered t.within (omega arith)),
+      record {
+        before = record { view = refl; root = refl; from = omega arith; to = refl; bytes = before_of_part xs t.from t.to c.args.a (omega arith) };
+        behind = record {
+          view = refl;
+          root = refl;
+          from = refl;
+          to = omega (arith, long, t.ordered);
+          bytes = behind_of_part xs t.from t.to c.args.b t.ordered t.within (omega arith);
+        };
+      },
     )

@@ -1,8 +1,10 @@
-use Rattle.std.proofs.Common.{[], ◌∷◌, length, refl, ◌∙◌, sym, subst, nat_lt}
+use Rattle.std.proofs.Common.{[], ◌∷◌, length, refl, ◌∙◌, arith, sym, subst, nat_lt}
 use Rattle.std.proofs.lemmas.Result.{err_from_is_err_and}
+use Rattle.refusal.specs.Writing.{of_room}
+use Rattle.std.proofs.lemmas.Slice.{between_from_start, between_to_end}
 use Rattle.rope_read.specs.Texts.{bad_part, bytes_in}
 use Rattle.shelf_view.specs.State.{shown, strings, text_at, unknown}
-use Rattle.shelf_view.specs.Marked.{in_part, earlier, ReadsBack, of_buffer}
+use Rattle.shelf_view.specs.Marked.{in_part, earlier, ReadsBack}
 use Rattle.refusal.specs.declared.Refusal.TheVariants.{NoDocument, BadPart, SmallBuffer}
 use Rattle.refusal.proofs.Firsts.{first_stays, first_then}
 use Rattle.shelf_view.proofs.Placing.{document_text}
@@ -38,7 +40,9 @@ returns c =
     let sides = c.in_ok-front.ensures in
     let whole =
     around_part (shown c.args.self.now) c.args.d c.args.a c.args.b (bytes_in c.text.result) text c.in_ok-front.front c.in_ok-front.back c.summary.result c.summary-2.result
-    c.summary.ensures c.summary-2.ensures sides.1.0 sides.1.1 in
+    c.summary.ensures c.summary-2.ensures
+    (sides.1.before.bytes ∙ between_from_start (bytes_in c.text.result) c.args.a)
+    (sides.1.behind.bytes ∙ between_to_end (bytes_in c.text.result) c.args.b (length (bytes_in c.text.result)) (omega arith)) in
     subst (λ why. ReadsBack why (in_part (text_at s c.args.d) c.args.a c.args.b) digits old c.read_between.new.out c.read_between.result)
     (sym (first_then part ((nat_lt (length old) 5, SmallBuffer) ∷ []) (part_is s c.args.d c.args.a c.args.b (bytes_in c.text.result) text c.in_ok-document.ensures.0 ∙ sides.0)))
-    (subst (λ f. ReadsBack (of_buffer (length old)) f digits old c.read_between.new.out c.read_between.result) whole c.read_between.ensures)
+    (subst (λ f. ReadsBack (of_room 5 (length old)) f digits old c.read_between.new.out c.read_between.result) whole c.read_between.ensures)
