@@ -1,8 +1,7 @@
 //! Splices, one on what the other made.
-ghost use Rattle.std.specs.Prelude.{◌≡◌, ◌≤◌, IfOk, length};
-ghost use Rattle.std.specs.List.{between};
+ghost use Rattle.std.specs.Prelude.{◌≡◌, IfOk};
 ghost use Rattle.shelf_view.specs.Marked.{fingerprint};
-ghost use Rattle.measured.specs.Stamps.{stamped, HasText, WritesBytes};
+ghost use Rattle.measured.specs.Stamps.{stamped, IsStamped, WritesBytes};
 
 use refusal::limits::{MOST_PLACES, MOST_RECORDS};
 use refusal::{Refusal, write_start};
@@ -28,7 +27,7 @@ fn stamp_all<'b, 'a>(
     len: usize,
     places: &[usize],
 ) -> Result<u32, Refusal>
-    ensures { IfOk result (λ d. (len ≤ length shelf.old.store.build.now) × HasText shelf.new d (stamped (between 0 len shelf.old.store.build.now) places.now)) }
+    ensures { IfOk result (IsStamped shelf.old.store.build.now len places.now shelf.new) }
 {
     let stamp = shelf.put(STAMP)?;
     let mut newest = shelf.take(0, len)?;

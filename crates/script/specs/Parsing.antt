@@ -4,6 +4,7 @@ use Rattle.std.specs.List.{AllByRecursion}
 use Rattle.netstring.specs.Netstring.{netstring, NetstringAt}
 use Rattle.script.specs.Commands.{few_digits, netstrings, places_from, word, arguments, places, Lawful, content, NoCommand}
 use Rattle.script.specs.Words.{spelling}
+use Rattle.script.specs.declared.command.Argument.{Argument}
 use Rattle.script.specs.declared.command.Command.{Command}
 
 -- the content c stands at the place p, in the netstring from i to j
@@ -22,6 +23,10 @@ pub record NumbersAt (s : List ℕ) (i : ℕ) (ns ps : List ℕ) (j : ℕ) : Typ
 -- no n numbers are written from i on
 abbrev pub NoNumbersAt : List ℕ → ℕ → ℕ → Type 0
 NoNumbersAt s i n = (ms t : List ℕ) → length ms ≡ n → AllByRecursion few_digits ms → drop i s ≢ netstrings (map decimal ms) ++ t
+
+-- so many number arguments are written from i to j, each with its place, and no others
+abbrev pub ArgumentsAt : List ℕ → ℕ → List (Argument ℕ) → ℕ → Type 0
+ArgumentsAt s i xs j = NumbersAt s i (map (λ a. a.value) xs) (map (λ a. a.at) xs) j
 
 -- the word and the arguments of k are written from i to j, and those of no other command
 pub record PartsAt (s : List ℕ) (i : ℕ) (k : Command) (j : ℕ) : Type 0 where

@@ -1,8 +1,8 @@
 //! Reading the command that stands at a place of a script.
-ghost use Rattle.std.specs.Prelude.{◌≡◌, MatchOption, length, map, ◌∷◌, []};
+ghost use Rattle.std.specs.Prelude.{◌≡◌, MatchOption, ◌∷◌, []};
 ghost use Rattle.netstring.specs.Netstring.{NoNetstringAt};
 ghost use Rattle.script.specs.Commands.{ReadAt};
-ghost use Rattle.script.specs.Parsing.{TextAt, NumbersAt, NoNumbersAt, PartsAt, NoPartsAt, CommandInside};
+ghost use Rattle.script.specs.Parsing.{TextAt, ArgumentsAt, NoNumbersAt, PartsAt, NoPartsAt, CommandInside};
 
 use crate::command::{Argument, Command, Word};
 use netstring::read::Netstring;
@@ -38,7 +38,7 @@ impl<'s> Arguments<'s> {
 
     fn number(&mut self) -> Option<Argument<u32>>
         ensures same { self.new.inside ≡ self.old.inside }
-        ensures value { MatchOption result (NoNumbersAt self.old.inside.now self.old.at 1) (λ a. NumbersAt self.old.inside.now self.old.at (a.value ∷ []) (a.at ∷ []) self.new.at) }
+        ensures value { MatchOption result (NoNumbersAt self.old.inside.now self.old.at 1) (λ a. ArgumentsAt self.old.inside.now self.old.at (a ∷ []) self.new.at) }
     {
         let Argument { value, at } = self.text()?;
         let value = netstring::read::number(value)? as u32;
@@ -48,7 +48,7 @@ impl<'s> Arguments<'s> {
     /// So many numbers, one behind the other.
     fn numbers<const N: usize>(&mut self) -> Option<[Argument<u32>; N]>
         ensures same { self.new.inside ≡ self.old.inside }
-        ensures value { MatchOption result (NoNumbersAt self.old.inside.now self.old.at N) (λ xs. NumbersAt self.old.inside.now self.old.at (map (λ a. a.value) xs) (map (λ a. a.at) xs) self.new.at) }
+        ensures value { MatchOption result (NoNumbersAt self.old.inside.now self.old.at N) (λ xs. ArgumentsAt self.old.inside.now self.old.at xs self.new.at) }
     {
         let mut numbers = [Argument { value: 0, at: 0 }; N];
         for i in 0..N {
