@@ -1,5 +1,5 @@
 -- Calls made one by one.
-use Rattle.std.proofs.Common.{sym, ap, ◌≡◌, ℕ, true, ◌≤◌, leb, List, [], ◌∷◌, length, Ok, Err, Some, None, Option, Result, Bor, refl, ap, ◌∙◌, arith}
+use Rattle.std.proofs.Common.{◌≡◌, ℕ, true, ◌≤◌, leb, List, [], ◌∷◌, length, Ok, Err, Some, None, Option, Result, Bor, sym, refl, ap, ◌∙◌, arith}
 use Rattle.std.proofs.lemmas.Bool.Decides.{nat_tests}
 use Rattle.rope.specs.Arena.{Root}
 use Rattle.rope.specs.declared.record.Record.{Record}

@@ -1,5 +1,5 @@
 -- Where the texts of a shelf lie.
-use Rattle.std.specs.Prelude.{ℕ, Bool, true, ◌&&◌, List, [], ◌∷◌, length, Some, None, Option, nat_le}
+use Rattle.std.specs.Prelude.{Bool, true, ◌&&◌, List, [], ◌∷◌, length, Some, None, Option, nat_le}
 use Rattle.refusal.specs.declared.limits.TheConstants.{MOST_TEXT}
 use Rattle.rope.specs.Arena.{Arena, Root, text_of, rooted}
 

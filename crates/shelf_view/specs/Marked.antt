@@ -1,6 +1,6 @@
 -- The questions of a marked shelf, which keeps the pair of Zémor's product and line-column: its fingerprints.
 use Rattle.std.specs.List.{between}
-use Rattle.std.specs.Prelude.{◌≡◌, ℕ, ◌+◌, ◌<◌, ◌≤◌, List, [], ◌∷◌, ◌++◌, length, take, drop, Some, None, Ok, Err, Option, Result, nat_lt}
+use Rattle.std.specs.Prelude.{◌≡◌, ℕ, ◌+◌, ◌<◌, ◌≤◌, List, ◌++◌, length, take, drop, Some, None, Ok, Err, Option, Result}
 use Rattle.monoid.specs.Monoid.{Model, fold_of}
 use Rattle.monoid.specs.LineColumnValues.{line_column_model}
 use Rattle.monoid.specs.Pair.{pair_model}
@@ -11,9 +11,8 @@ use Rattle.zemor.specs.Windows.{AtMostFive}
 use Rattle.zemor.specs.Written.{hex, bytes_of, WellFormed}
 use Rattle.zemor.specs.declared.matrix.Entries.{Entries}
 use Rattle.zemor.specs.declared.matrix.Sl2.{Sl2}
-use Rattle.refusal.specs.Refusals.{first}
 use Rattle.refusal.specs.declared.Refusal.{Refusal}
-use Rattle.refusal.specs.declared.Refusal.TheVariants.{SmallBuffer, BadFingerprint, NoWindow}
+use Rattle.refusal.specs.declared.Refusal.TheVariants.{BadFingerprint, NoWindow}
 use Rattle.shelf_view.specs.State.{State, text_at}
 use Rattle.shelf_view.specs.declared.sameness.Sameness.{Sameness}
 use Rattle.shelf_view.specs.declared.sameness.Sameness.TheVariants.{Different, Equal, Alike}
