@@ -1,6 +1,4 @@
 //! Trees, run.
-ghost use Rattle.std.specs.Prelude.{◌≡◌, true};
-ghost use Rattle.rope.specs.Arena.{rooted};
 
 use monoid::Monoid;
 use monoid::fold::fold;
@@ -14,9 +12,7 @@ use rope_keep::{keep, lengthen, take_part};
 use rope_read::whole::Whole;
 
 /// Whether `text` is the text at `root`.
-fn holds<'b, 'a, M: Monoid>(store: &Store<'b, 'a, M>, root: Root, text: &[u8]) -> bool
-    requires { rooted store.now.records.used root ≡ true }
-{
+fn holds<'b, 'a, M: Monoid>(store: &Store<'b, 'a, M>, root: Root, text: &[u8]) -> bool {
     let here = Whole::new(store.view(), root).text();
     here.len() == text.len()
         && text
@@ -26,9 +22,7 @@ fn holds<'b, 'a, M: Monoid>(store: &Store<'b, 'a, M>, root: Root, text: &[u8]) -
 }
 
 /// Copies the text at `root` to the start of `out`, where it fits.
-fn copies<'b, 'a, M: Monoid>(store: &Store<'b, 'a, M>, root: Root, out: &mut [u8]) -> bool
-    requires { rooted store.now.records.used root ≡ true }
-{
+fn copies<'b, 'a, M: Monoid>(store: &Store<'b, 'a, M>, root: Root, out: &mut [u8]) -> bool {
     Whole::new(store.view(), root).text().copy(out).is_ok()
 }
 
@@ -39,9 +33,7 @@ fn sums_as<'b, 'a>(
     a: usize,
     b: usize,
     text: &[u8],
-) -> bool
-    requires { rooted store.now.records.used root ≡ true }
-{
+) -> bool {
     let Ok(part) = Whole::new(store.view(), root).text().part(a, b) else {
         return false;
     };
@@ -98,4 +90,20 @@ fn splices_a_text_into_itself(rt: HostRuntime) {
     assert!(rt; sums_as(&store, twice, 100, 740, &build));
     assert!(rt; sums_as(&store, twice, 740, 1180, &build[200..640]));
     assert!(rt; !sums_as(&store, twice, 99, 739, &build));
+}
+
+// A root beyond the records that are used, also of those that are lent, counts as that of the empty text.
+#[test]
+fn takes_any_root(rt: HostRuntime) {
+    let mut added = [0u8; 4];
+    let mut records = [Record::blank(LINE); 40];
+    let mut store: Store<LineColumn> = Store::new(b"", &mut added, &mut records);
+    let text = keep(&mut store, b"one\n");
+    assert!(rt; holds(&store, text, b"one\n"));
+    for root in [None, Some(1), Some(39), Some(40), Some(u32::MAX)] {
+        let whole = Whole::new(store.view(), root);
+        assert!(rt; holds(&store, root, b""));
+        assert_eq!(rt; (whole.len(), whole.height()), (0, 0));
+        assert_eq!(rt; whole.summary(), LINE);
+    }
 }
