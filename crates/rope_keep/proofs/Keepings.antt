@@ -33,8 +33,8 @@ grows_none s bs n e =
       cost = omega arith;
     }
 
-pub stands_built : {V R : Type 0} {kind : _} {s t : Store V R kind} {r : ℕ} (origin : Origin) (start n : ℕ) (bs : List ℕ) → Built s t r origin start n → part (arena_of s) origin start n ≡ bs → length bs ≡ n → LowRoot t (Some r) bs
-stands_built {t} {r} origin start n bs b is long =
+pub stands_built : {V R : Type 0} {kind : _} {s : Store V R kind} (t : Store V R kind) {r : ℕ} (origin : Origin) (start n : ℕ) (bs : List ℕ) → Built s t r origin start n → part (arena_of s) origin start n ≡ bs → length bs ≡ n → LowRoot t (Some r) bs
+stands_built t {r} origin start n bs b is long =
     let more = ap leaves long in
     record {
       root = lt-ltb r t.records.used b.below;
@@ -61,8 +61,8 @@ module _ {V R : Type 0} {kind : _} {s s1 : Store V R kind} {at : ℕ} {bs : List
       ∙ ap (take (length bs)) (drop_at (arena_of s).added bs at long)
       ∙ take_all (length bs) bs (omega arith)
 
-  pub kept_grows : {s2 : Store V R kind} {r : ℕ} → Built s1 s2 r Added at (length bs) → Grows s s2 bs (text_need (length bs))
-  kept_grows {s2} b =
+  pub kept_grows : (s2 : Store V R kind) {r : ℕ} → Built s1 s2 r Added at (length bs) → Grows s s2 bs (text_need (length bs))
+  kept_grows s2 b =
       let same : (arena_of s2).added ≡ (arena_of s1).added = ap (λ i. take i s2.added.memory.now) b.takes.added ∙ b.takes.keeps.added.before in
       record {
         keeps = keeps_trans p.keeps b.takes.keeps;

@@ -16,7 +16,8 @@ pub returns : goal.returns
 returns g c =
     let bs = c.args.text.now in
     let p = c.append-from.ensures in
+    let built = c.build.new.self in
     record {
-      grows = kept_grows c.requires.free (omega arith) p c.build.ensures;
-      stands = stands_built Added c.append-from.result (length bs) bs c.build.ensures (kept_part c.requires.free (omega arith) p) refl;
+      grows = kept_grows c.requires.free (omega arith) p built c.build.ensures;
+      stands = stands_built built Added c.append-from.result (length bs) bs c.build.ensures (kept_part c.requires.free (omega arith) p) refl;
     }

@@ -10,7 +10,8 @@ pub returns : goal.returns
 returns g c =
     let xs = c.args.store.now.build.now in
     let n = c.args.count in
+    let built = c.build.new.self in
     record {
-      takes = takes_within (text_need n) (omega arith) c.build.ensures.takes;
-      stands = stands_built Build c.args.start n (take n (drop c.args.start xs)) c.build.ensures refl (length_part xs c.args.start n c.requires.within);
+      takes = takes_within {b = built} (text_need n) (omega arith) c.build.ensures.takes;
+      stands = stands_built built Build c.args.start n (take n (drop c.args.start xs)) c.build.ensures refl (length_part xs c.args.start n c.requires.within);
     }

@@ -18,8 +18,8 @@ returns-clause-value g c =
 pub returns-clause-parts : goal.returns-clause-parts
 returns-clause-parts g c u v e =
     let m = g.M.Monoid.model in
-    let l = g.met.M.Monoid.lawful in
-    c.lengthened.ensures ∙ fold_joined m l c.loop-stretch.sum c.loop-stretch.rest.now ∙ c.loop-stretch.invariant ∙ ap (fold_of m) e ∙ fold_append m l u v
+    let whole = fold_of m c.args.text.now in
+    ◌∙◌ {b = whole} (returns-clause-value g c) (ap (fold_of m) e ∙ fold_append m g.met.M.Monoid.lawful u v)
 
 pub returns-clause-bytes : goal.returns-clause-bytes
 returns-clause-bytes g c = all_bytes_by_place c.args.text.now (λ i. (c.type_inv.text i).fits)

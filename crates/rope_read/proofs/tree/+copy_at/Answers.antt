@@ -1,8 +1,8 @@
-use Rattle.std.proofs.Common.{◌≡◌, ◌-◌, refl, ap, ◌∙◌, length, arith}
+use Rattle.std.proofs.Common.{◌≡◌, ◌+◌, ◌-◌, refl, ap, ◌∙◌, length, arith}
 use Rattle.std.proofs.lemmas.List.Edits.{length-between}
 use Rattle.std.specs.List.{between}
 use Rattle.rope.specs.Tree.{text}
-use Rattle.rope.specs.Arena.{tree_at}
+use Rattle.rope.specs.Arena.{tree_at, part}
 use Rattle.rope.specs.Memory.{seen}
 use Rattle.rope.proofs.Readings.{splits_of}
 use Rattle.rope_read.proofs.Pieces.{piece_right, piece_both, piece_part, copied_both}
@@ -11,7 +11,8 @@ use Rattle.rope_read.proofs.tree.+copy_at.Goals as goal
 pub returns-in-Leaf : goal.returns-in-Leaf
 returns-in-Leaf g t c =
     let xs = text (tree_at (seen c.args.view) c.args.i) in
-    let bytes : c.bytes-bytes.result.now ≡ between c.args.a c.args.b xs = c.bytes-bytes.ensures ∙ piece_part c.record-top.ensures c.in-Leaf.is c.args.a c.args.b c.requires.within in
+    let piece = part (seen c.args.view) c.in-Leaf.origin (c.in-Leaf.start + c.args.a) (c.args.b - c.args.a) in
+    let bytes : c.bytes-bytes.result.now ≡ between c.args.a c.args.b xs = ◌∙◌ {b = piece} c.bytes-bytes.ensures (piece_part c.record-top.ensures c.in-Leaf.is c.args.a c.args.b c.requires.within) in
     let long : length c.bytes-bytes.result.now ≡ c.args.b - c.args.a = ap length bytes ∙ length-between xs c.args.a c.args.b c.requires.within in
     rw (c.copy_from_slice.ensures.after ∙ bytes, long) refl
 

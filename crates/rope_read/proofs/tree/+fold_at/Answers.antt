@@ -1,7 +1,7 @@
-use Rattle.std.proofs.Common.{◌-◌, sym, ap, ◌∙◌}
+use Rattle.std.proofs.Common.{◌-◌, ◌++◌, ap, ◌∙◌}
 use Rattle.std.specs.List.{between}
 use Rattle.monoid.specs.Monoid.{fold_of}
-use Rattle.monoid.proofs.Folds.{fold_append}
+use Rattle.monoid.proofs.Folds.{joined_folds}
 use Rattle.rope.specs.Tree.{text}
 use Rattle.rope.specs.Arena.{tree_at}
 use Rattle.rope.specs.Memory.{seen}
@@ -25,7 +25,8 @@ returns-else-a-split g t c =
     let m = g.M.Monoid.model in
     let v = seen c.args.view in
     let n = c.record-split.result.length in
-    rw (c.fold_at-else-a-split.ensures, c.fold_at-else-a-split-2.ensures) at c.join.ensures
-    ∙ sym (fold_append m g.met.M.Monoid.lawful (between c.args.a n (text (tree_at v c.in-Inner.left))) (between 0 (c.args.b - n) (text (tree_at v c.in-Inner.right))))
-    ∙ ap (fold_of m)
-    (piece_both (splits_of c.record-top.ensures c.in-Inner.is) c.args.a c.args.b n c.record-split.ensures.long c.if-a-split.false c.if-b-split.false)
+    let xs = between c.args.a n (text (tree_at v c.in-Inner.left)) in
+    let ys = between 0 (c.args.b - n) (text (tree_at v c.in-Inner.right)) in
+    let split = piece_both (splits_of c.record-top.ensures c.in-Inner.is) c.args.a c.args.b n c.record-split.ensures.long c.if-a-split.false c.if-b-split.false in
+    ◌∙◌ {b = fold_of m (xs ++ ys)}
+    (joined_folds m g.met.M.Monoid.lawful xs ys c.fold_at-else-a-split.ensures c.fold_at-else-a-split-2.ensures c.join.ensures) (ap (fold_of m) split)

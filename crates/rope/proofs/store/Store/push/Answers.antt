@@ -20,8 +20,8 @@ returns g c =
     let s = c.args.self.now in
     record {
       takes = record {
-        keeps = record { build = refl; added = fills_none s.added.used s.added.memory.now; records = c.push.ensures.gains.fills };
-        added = refl;
+        keeps = record { build = refl {a = s.build.now}; added = fills_none s.added.used s.added.memory.now; records = c.push.ensures.gains.fills };
+        added = refl {a = s.added.used};
         cost = omega (arith, c.push.ensures.gains.used);
       };
       at = omega (arith, c.push.ensures.value);

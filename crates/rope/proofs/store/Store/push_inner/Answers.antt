@@ -18,7 +18,10 @@ pub push-requires : goal.push-requires
 push-requires g c =
     let m = g.M.Monoid.model in
     let s = c.args.self.now in
+    let x = fold_of m (text (tree_of s c.args.left)) in
+    let y = fold_of m (text (tree_of s c.args.right)) in
+    let rows = m.joined_rows (m.row x) (m.row y) in
+    let kept = m.joined_rows c.record-l.result.row c.record-r.result.row in
     inner_fine m g.met.M.Monoid.lawful s c.args.left c.args.right c.requires
     c.record-l.result c.record-r.result c.max.result c.join_rows-row.result c.record-l.ensures c.record-r.ensures c.max.ensures
-    (c.join_rows-row.ensures ∙ (λ i. m.joined_rows (c.record-l.ensures.row i) (c.record-r.ensures.row i))
-    ∙ g.met.M.Monoid.lawful.rows (fold_of m (text (tree_of s c.args.left))) (fold_of m (text (tree_of s c.args.right))))
+    (◌∙◌ {b = kept} c.join_rows-row.ensures (◌∙◌ {b = rows} (λ i. m.joined_rows (c.record-l.ensures.row i) (c.record-r.ensures.row i)) (g.met.M.Monoid.lawful.rows x y)))
