@@ -11,8 +11,8 @@ pub mod pair;
 
 /// A summary of texts. No function refuses, and each is fixed by its arguments.
 pub trait Monoid: Copy {
-    /// A value as it lies in records and tables: plain numbers, under no condition that their types can break. It is told by
-    /// functions to and fro in place of `From` and `TryFrom`, since the laws below tie them to the values.
+    /// A value as it lies in records and tables: plain numbers, under no condition beyond their types. Not every row need be a
+    /// value's.
     type Row: Copy;
 
     /// What the functions below mean.

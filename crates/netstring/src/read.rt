@@ -9,7 +9,7 @@ use refusal::Refusal;
 /// The greatest number that stands as an argument: seven digits.
 pub const MOST_NUMBER: usize = 9_999_999;
 
-/// The limit as a number, to which the constant is held: definitions name the constant.
+/// Tells the limit as a number, which the contracts name by its constant. It does nothing.
 pub fn limit_stands()
     ensures { MOST_NUMBER ≡ 9999999 }
 {}

@@ -20,7 +20,7 @@ pub const MOST_BROUGHT: usize = 4_096;
 /// So many drafts are opened on one shelf at most.
 pub const MOST_DRAFTS: u32 = 4_294_967_295;
 
-/// The limits as numbers, to which the constants are held: definitions name the constants.
+/// Tells the limits as numbers, which the contracts name by their constants. It does nothing.
 pub fn limits_stand()
     ensures records { MOST_RECORDS ≡ 65536 }
     ensures bytes { MOST_BYTES ≡ 16777216 }

@@ -24,7 +24,7 @@ impl Residue {
 
     pub const ONE: Residue = Residue { n: 1 };
 
-    /// `ZERO` and `ONE`: a constant has no contract of its own, so it stands here.
+    /// `ZERO` and `ONE`. The contract tells which numbers the constants are.
     pub fn constants() -> (Residue, Residue)
         ensures { (result.0.n ≡ 0) × (result.1.n ≡ 1) }
     {
@@ -38,7 +38,7 @@ impl Residue {
         Residue { n: n % P }
     }
 
-    /// The number below p, as `NonZero::get` gives its number.
+    /// The number below p.
     pub fn get(self) -> u32
         ensures { result ≡ self.n }
     {

@@ -15,7 +15,7 @@ pub struct RopeView<'v, M: Monoid> {
     ghost summed: { Summed M.Monoid.model (arena build.now added.now records.now) },
 }
 
-// by hand: `derive(Clone, Copy)` was tried and is refused over the ghost fields of a generic struct
+// `derive(Clone, Copy)` does not take a generic struct with ghost fields
 impl<'v, M: Monoid> Clone for RopeView<'v, M> {
     ghost is_clone = { λ x y. y ≡ x };
 

@@ -1,6 +1,5 @@
-//! Parts of trees as trees: fronts and backs, and the edits that are made of them. A back is no front with a side turned:
-//! the one ends at a place above 0, the other begins at one below the length. The store and a root are two
-//! arguments, as in `rope_join`; a part is two places, of which one at a time goes down the tree.
+//! Parts of trees as trees: fronts and backs, and the edits that are made of them. A front ends at a place above 0, and a
+//! back begins at one below the length, since no tree is empty.
 #![tactic(auto)]
 
 ghost use Rattle.std.specs.Prelude.{◌≡◌, ◌+◌, ◌-◌, ◌*◌, ◌^◌, ◌<◌, ◌≤◌, ◌++◌, length, take, drop};

@@ -1,6 +1,5 @@
-//! The join of two trees of any heights, with rotations. What is said of the left stands once more for the right: a side
-//! as a parameter would be asked for in every line, and every proof would go by cases over it. Trees are named by numbers
-//! beside the store that holds them, and the contracts relate them: a type that held both would lend the store, which grows.
+//! The join of two trees of any heights, with rotations. A tree is named by the number of its record, which stays the same
+//! while the store grows.
 #![tactic(auto)]
 
 ghost use Rattle.std.specs.Prelude.{◌≡◌, ◌+◌, ◌-◌, ◌<◌, ◌≤◌};

@@ -1,5 +1,4 @@
-//! New texts: one that is brought, one that is a part of the build text, and one behind another. The store and a root are
-//! two arguments, as in `rope_join`.
+//! New texts: one that is brought, one that is a part of the build text, and one behind another.
 #![tactic(auto)]
 
 ghost use Rattle.std.specs.Prelude.{◌≡◌, ◌+◌, ◌^◌, ◌<◌, ◌≤◌, max, true, ◌++◌, length, take, drop};

@@ -30,7 +30,7 @@ pub struct Span {
     pub to: u32,
 }
 
-// by hand, as `RopeView`
+// not derived, as for `RopeView`
 impl<'v, M: Monoid> Clone for Text<'v, M> {
     ghost is_clone = { λ x y. y ≡ x };
 

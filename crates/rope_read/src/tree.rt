@@ -1,5 +1,4 @@
-//! Questions about the tree at a record. The view and a record, and two places, go down the tree each on its own, so no
-//! struct holds them.
+//! Questions about the tree at a record.
 ghost use Rattle.std.specs.Prelude.{◌≡◌, ◌-◌, ◌<◌, ◌≤◌, ◌++◌, length, drop, slice_index};
 ghost use Rattle.std.specs.List.{between};
 ghost use Rattle.monoid.specs.Monoid.{fold_of};

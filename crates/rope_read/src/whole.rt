@@ -18,7 +18,7 @@ pub struct Whole<'v, M: Monoid> {
     ghost inside: { rooted (length view.records.now) root ≡ true },
 }
 
-// by hand, as `RopeView`
+// not derived, as for `RopeView`
 impl<'v, M: Monoid> Clone for Whole<'v, M> {
     ghost is_clone = { λ x y. y ≡ x };
 

@@ -16,7 +16,7 @@ pub const MOST_ANSWER: usize = 4_102;
 /// The longest text that is told.
 pub const MOST_TOLD: usize = 4_096;
 
-/// The limits as numbers, to which the constants are held: definitions name the constants.
+/// Tells the limits as numbers, which the contracts name by their constants. It does nothing.
 pub fn limits_stand()
     ensures answer { MOST_ANSWER ≡ 4102 }
     ensures told { MOST_TOLD ≡ 4096 }

@@ -24,7 +24,7 @@ pub struct View<'v, M: Monoid> {
     ghost drafted: { fine (seen rope) (root_in draft) ≡ true },
 }
 
-// by hand, as `RopeView`
+// not derived, as for `RopeView`
 impl<'v, M: Monoid> Clone for View<'v, M> {
     ghost is_clone = { λ x y. y ≡ x };
 

@@ -30,7 +30,7 @@ const ADDED: usize = 16_384;
 /// How many places.
 const PLACES: usize = 64;
 
-/// The limits as numbers, to which the constants are held: definitions name the constants.
+/// Tells the limits as numbers, which the contracts name by their constants. It does nothing.
 pub fn limits_stand()
     ensures script { MOST_SCRIPT ≡ 16384 }
     ensures records { RECORDS ≡ 1024 }

@@ -24,7 +24,7 @@ rule_from k (suc n) (suc i) h =
 pub rule : (k : ℕ) → k < 256 → get_or (rows_from 0 256) k [] ≡ in_order (byte_product k)
 rule k h = rule_from 0 256 k h ∙ ap (λ j. in_order (byte_product j)) (zero-add k)
 
--- the checker computes the rows of the rule, and finds the table's 1,024 numbers in them
+-- the rows of the rule, computed, are the table's 1,024 numbers
 table_whole : TABLE ≡ rows_from 0 256
 unfolding rows_from byte_product
 table_whole = refl

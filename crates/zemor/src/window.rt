@@ -4,7 +4,6 @@ ghost use Rattle.std.specs.Prelude.{◌≤◌};
 pub mod ops;
 
 /// A text of at most five bytes: the last `len` of `bytes`.
-// An `ArrayVec` is not `Copy`, and would be filled by a call that can fail.
 #[derive(Clone, Copy)]
 pub struct Window {
     bytes: [u8; 5],

@@ -20,8 +20,7 @@ fn capped(build: &[u8]) -> &[u8]
 }
 
 impl<'b, 'a, M: Monoid> Store<'b, 'a, M> {
-    /// A store with no record and no added text, over the first 16,777,216 bytes of the build text. The memory is lent once,
-    /// so its kinds are arguments and no struct.
+    /// A store with no record and no added text, over the first 16,777,216 bytes of the build text.
     pub fn new(
         build: &'b [u8],
         added: &'a mut [u8],

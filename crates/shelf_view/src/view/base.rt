@@ -10,7 +10,7 @@ use rope::record::Root;
 use rope::view::RopeView;
 
 impl<'v, M: Monoid> View<'v, M> {
-    /// A view of these trees, for the shelf that they lie on. Five arguments and no struct: the fields of the view itself.
+    /// A view of these trees, for the shelf that they lie on. Takes constant time.
     pub fn over(
         rope: RopeView<'v, M>,
         roots: &'v [Root],

@@ -57,7 +57,6 @@ impl Draft {
         ensures step { Steps shelf.old (Seal self.id) (sealed result) shelf.new }
         ensures back { Back self result }
     {
-        // the draft goes either back or to its end
         match shelf.draft_to_seal(self.id) {
             Err(why) => Err((why, self)),
             Ok(root) => {

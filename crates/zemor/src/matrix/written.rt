@@ -14,8 +14,6 @@ use monoid::Monoid;
 use refusal::Refusal;
 use std::{fmt, str};
 
-// Written forms are pairs of named functions, as `to_be_bytes` and `from_be_bytes` are, and no `From`: a name says which
-// of the forms.
 impl Sl2 {
     /// Sixteen bytes: a, b, c and d, each as four bytes, the highest first.
     pub fn to_bytes(self) -> [u8; 16]

@@ -23,7 +23,7 @@ impl Window {
 fn spelled_bytes(bits: Bits) -> Window
     ensures { window_text result ≡ digits_in 256 bits.word (bits.len / 8) }
 {
-    // The borrow checker does not cover `[_, _, _, bytes @ ..]` by value.
+    // forty bits fill the last five of the eight bytes
     let [_, _, _, a, b, c, d, e] = bits.word.to_be_bytes();
     Window {
         bytes: [a, b, c, d, e],
