@@ -37,7 +37,7 @@ TellsRun P a = (r : Result Answered Refusal) × (P r × (a ≡ run_numbered r))
 
 -- REFUSALS
 
--- the part a to b of a text is read back into a buffer of n bytes
+-- reading back what lies from a to b in a text, into a buffer of n bytes
 abbrev pub of_read_back : List ℕ → ℕ → ℕ → ℕ → Option Refusal
 of_read_back text a b n = first ((bad_part text a b, BadPart) ∷ (nat_lt n 5, SmallBuffer) ∷ [])
 
