@@ -9,7 +9,8 @@ pub mod karp_rabin;
 pub mod line_column;
 pub mod pair;
 
-/// A summary of texts. No function refuses, and each is fixed by its arguments.
+/// A summary of texts. No function refuses, and each is fixed by its arguments. Where a time is told, each but `lengthened`
+/// counts as constant.
 pub trait Monoid: Copy {
     /// A value as it lies in records and tables: plain numbers, under no condition beyond their types. Not every row need be a
     /// value's.
@@ -74,7 +75,7 @@ pub trait Monoid: Copy {
     ghost lawful: { Lawful model };
 }
 
-/// A monoid with inverses.
+/// A monoid with inverses. Where a time is told, an inverse counts as constant.
 pub trait Group: Monoid {
     ghost inverted: { Self → Self };
 
@@ -85,7 +86,7 @@ pub trait Group: Monoid {
     ghost inverts: { Inverse Self.Monoid.model inverted };
 }
 
-/// The one x for which `front`, x and `back`, joined in order, are `whole`.
+/// The one x for which `front`, x and `back`, joined in order, are `whole`. Takes constant time.
 pub fn between<G: Group>(front: G, whole: G, back: G) -> G
     ensures solves { G.Monoid.model.joined front (G.Monoid.model.joined result back) ≡ whole }
     ensures only { (x : G) → G.Monoid.model.joined front (G.Monoid.model.joined x back) ≡ whole → x ≡ result }

@@ -24,28 +24,28 @@ impl Residue {
 
     pub const ONE: Residue = Residue { n: 1 };
 
-    /// `ZERO` and `ONE`. The contract tells which numbers the constants are.
+    /// `ZERO` and `ONE`. The contract tells which numbers the constants are. Takes constant time.
     pub fn constants() -> (Residue, Residue)
         ensures { (result.0.n ≡ 0) × (result.1.n ≡ 1) }
     {
         (Residue::ZERO, Residue::ONE)
     }
 
-    /// n modulo p.
+    /// n modulo p. Takes constant time.
     pub fn new(n: u32) -> Residue
         ensures { result.n ≡ n % prime }
     {
         Residue { n: n % P }
     }
 
-    /// The number below p.
+    /// The number below p. Takes constant time.
     pub fn get(self) -> u32
         ensures { result ≡ self.n }
     {
         self.n
     }
 
-    /// self * b + c.
+    /// self * b + c. Takes constant time.
     pub fn multiply_add(self, b: Residue, c: Residue) -> Residue
         ensures { result.n ≡ (self.n * b.n + c.n) % prime }
     {
@@ -53,14 +53,14 @@ impl Residue {
     }
 }
 
-/// a * b + c modulo p, of any numbers, reduced once.
+/// a * b + c modulo p, of any numbers, reduced once. Takes constant time.
 pub fn multiply_add(a: u32, b: u32, c: u32) -> Residue
     ensures { result.n ≡ (a * b + c) % prime }
 {
     reduced(a as u64 * b as u64 + c as u64)
 }
 
-/// a * b modulo p, of any numbers.
+/// a * b modulo p, of any numbers. Takes constant time.
 pub fn multiply(a: u32, b: u32) -> Residue
     ensures { result.n ≡ a * b % prime }
 {

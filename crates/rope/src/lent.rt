@@ -14,28 +14,28 @@ pub struct Lent<'a, T, const MOST: usize> {
 impl<'a, T: Copy, const MOST: usize> Lent<'a, T, MOST> {
     ghost use Rattle.rope.specs.Held.{held, Gains};
 
-    /// Nothing is held yet.
+    /// Nothing is held yet. Takes constant time.
     pub fn new(memory: &'a mut [T]) -> Lent<'a, T, MOST>
         ensures { (result.used ≡ 0) × (result.memory.now ≡ memory.old) }
     {
         Lent { memory, used: 0 }
     }
 
-    /// How many items more there is room for.
+    /// How many items more there is room for. Takes constant time.
     pub fn room(&self) -> usize
         ensures { result ≡ min (length self.now.memory.now) MOST - self.now.used }
     {
         self.memory.len().min(MOST) - self.used
     }
 
-    /// What is held.
+    /// What is held. Takes constant time.
     pub fn as_slice(&self) -> &[T]
         ensures { result.now ≡ held self.now }
     {
         &self.memory[..self.used]
     }
 
-    /// One item more, and how many are held then.
+    /// One item more, and how many are held then. Takes constant time.
     pub fn push(&mut self, item: T) -> usize
         requires { self.old.used < min (length self.old.memory.now) MOST }
         ensures value { result ≡ self.old.used + 1 }
@@ -47,7 +47,7 @@ impl<'a, T: Copy, const MOST: usize> Lent<'a, T, MOST> {
         i + 1
     }
 
-    /// More items, in order, and the place of the first.
+    /// More items, in order, and the place of the first. Takes time in their number.
     pub fn extend_from_slice(&mut self, items: &[T]) -> usize
         requires { self.old.used + length items.now ≤ min (length self.old.memory.now) MOST }
         ensures value { result ≡ self.old.used }

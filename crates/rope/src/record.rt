@@ -36,7 +36,7 @@ pub struct Record<R> {
 }
 
 impl<R> Record<R> {
-    /// A record for memory that is lent: nothing reads it before it is written.
+    /// A record for memory that is lent: nothing reads it before it is written. Takes constant time.
     pub fn blank(row: R) -> Record<R>
         ensures { result ≡ record { shape = Leaf Build 0; length = 0; height = 0; row = row } }
     {

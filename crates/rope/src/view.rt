@@ -33,7 +33,7 @@ impl<'v, M: Monoid> RopeView<'v, M> {
     ghost use Rattle.rope.specs.Arena.{IsRecord, part, origin_text};
     ghost use Rattle.rope.specs.Memory.{seen};
 
-    /// A view of used texts and records, whoever lends them.
+    /// A view of used texts and records, whoever lends them. Takes constant time.
     pub fn new(build: &'v [u8], added: &'v [u8], records: &'v [Record<M::Row>]) -> RopeView<'v, M>
         requires sound { Sound (arena build.now added.now records.now) }
         requires summed { Summed M.Monoid.model (arena build.now added.now records.now) }
@@ -46,14 +46,14 @@ impl<'v, M: Monoid> RopeView<'v, M> {
         }
     }
 
-    /// How many records are used.
+    /// How many records are used. Takes constant time.
     pub fn records_used(self) -> usize
         ensures { result ≡ length self.entry.records.now }
     {
         self.records.len()
     }
 
-    /// Record `i`, which tells the length, the height and the summary of its tree.
+    /// Record `i`, which tells the length, the height and the summary of its tree. Takes constant time.
     pub fn record(self, i: u32) -> Record<M::Row>
         requires { i < length self.records.now }
         ensures { IsRecord M.Monoid.model (seen self.entry) i result }
@@ -61,7 +61,7 @@ impl<'v, M: Monoid> RopeView<'v, M> {
         self.records[i as usize]
     }
 
-    /// The bytes of a piece.
+    /// The bytes of a piece. Takes constant time.
     pub fn bytes(self, piece: Piece) -> &'v [u8]
         requires { piece.start + piece.len ≤ length (origin_text (seen self) piece.origin) }
         ensures { result.now ≡ part (seen self.entry) piece.origin piece.start piece.len }

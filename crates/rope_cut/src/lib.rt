@@ -69,7 +69,7 @@ fn back_at<'b, 'a, M: Monoid>(store: &mut Store<'b, 'a, M>, i: u32, a: u32) -> u
     }
 }
 
-/// The text at `root` up to the place `b`.
+/// The text at `root` up to the place `b`. Takes time in the height of its tree.
 pub fn front<'b, 'a, M: Monoid>(store: &mut Store<'b, 'a, M>, root: Root, b: u32) -> Root
     requires rooted { Rooted store.old root }
     requires within { b ≤ length (text_in store.old root) }
@@ -82,7 +82,7 @@ pub fn front<'b, 'a, M: Monoid>(store: &mut Store<'b, 'a, M>, root: Root, b: u32
     Some(front_at(store, root?, b))
 }
 
-/// The text at `root` from the place `a` on.
+/// The text at `root` from the place `a` on. Takes time in the height of its tree.
 pub fn back<'b, 'a, M: Monoid>(store: &mut Store<'b, 'a, M>, root: Root, a: u32) -> Root
     requires rooted { Rooted store.old root }
     requires within { a ≤ length (text_in store.old root) }
@@ -96,7 +96,7 @@ pub fn back<'b, 'a, M: Monoid>(store: &mut Store<'b, 'a, M>, root: Root, a: u32)
     Some(back_at(store, i, a))
 }
 
-/// The text at `left` and then that at `right`.
+/// The text at `left` and then that at `right`. Takes time in the difference of their heights.
 pub fn join_roots<'b, 'a, M: Monoid>(store: &mut Store<'b, 'a, M>, left: Root, right: Root) -> Root
     requires rooted { Rooted store.old left × Rooted store.old right }
     requires short { length (text_in store.old left) + length (text_in store.old right) < 2 ^ 32 }
@@ -111,7 +111,7 @@ pub fn join_roots<'b, 'a, M: Monoid>(store: &mut Store<'b, 'a, M>, left: Root, r
     }
 }
 
-/// The part `a` to `b` of the text at `root`.
+/// The part `a` to `b` of the text at `root`. Takes time in the height of its tree.
 pub fn cut<'b, 'a, M: Monoid>(store: &mut Store<'b, 'a, M>, root: Root, a: u32, b: u32) -> Root
     requires rooted { Rooted store.old root }
     requires part { (a ≤ b) × (b ≤ length (text_in store.old root)) }
@@ -178,7 +178,7 @@ fn splice_at<'b, 'a, M: Monoid>(
     replace(store, Some(i), a, b, other)
 }
 
-/// The text at `root` with its part `a` to `b` replaced by that at `other`.
+/// The text at `root` with its part `a` to `b` replaced by that at `other`. Takes time in the heights of both trees.
 pub fn splice<'b, 'a, M: Monoid>(
     store: &mut Store<'b, 'a, M>,
     root: Root,

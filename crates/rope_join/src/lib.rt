@@ -91,7 +91,7 @@ fn balance<'b, 'a, M: Monoid>(store: &mut Store<'b, 'a, M>, left: u32, right: u3
 }
 
 /// A tree of the text of `left` and then that of `right`. The shorter tree goes down the other's near side to its own
-/// height, and each level above is balanced again.
+/// height, and each level above is balanced again. Takes time in the difference of their heights.
 pub fn join<'b, 'a, M: Monoid>(store: &mut Store<'b, 'a, M>, left: u32, right: u32) -> u32
     requires { Joinable store.old left right (apart (tree_of store.old left) (tree_of store.old right)) }
     ensures { Joined store.old store.new result (tree_of store.old left) (tree_of store.old right) (apart (tree_of store.old left) (tree_of store.old right)) }

@@ -14,7 +14,7 @@ use rope::record::{Origin, Piece, Root};
 use rope::store::Store;
 use rope_cut::join_roots;
 
-/// Writes `text` behind the added text, and builds a tree of it.
+/// Writes `text` behind the added text, and builds a tree of it. Takes time in the length of `text`.
 pub fn keep<'b, 'a, M: Monoid>(store: &mut Store<'b, 'a, M>, text: &[u8]) -> Root
     requires addable { Addable store.old (length text.now) }
     requires free { Free store.old (text_need (length text.now)) }
@@ -32,7 +32,7 @@ pub fn keep<'b, 'a, M: Monoid>(store: &mut Store<'b, 'a, M>, text: &[u8]) -> Roo
     }))
 }
 
-/// A tree of the `count` bytes from `start` on of the build text.
+/// A tree of the `count` bytes from `start` on of the build text. Takes time in their number.
 pub fn take_part<'b, 'a, M: Monoid>(store: &mut Store<'b, 'a, M>, start: u32, count: u32) -> Root
     requires within { start + count ≤ length store.old.build.now }
     requires free { Free store.old (text_need count) }
@@ -49,7 +49,8 @@ pub fn take_part<'b, 'a, M: Monoid>(store: &mut Store<'b, 'a, M>, start: u32, co
     }))
 }
 
-/// The text at `root` and then `text`, which is written behind the added text.
+/// The text at `root` and then `text`, which is written behind the added text. Takes time in the length of `text` and the
+/// height of the tree at `root`.
 pub fn lengthen<'b, 'a, M: Monoid>(store: &mut Store<'b, 'a, M>, root: Root, text: &[u8]) -> Root
     requires rooted { Rooted store.old root }
     requires addable { Addable store.old (length text.now) }

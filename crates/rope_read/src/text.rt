@@ -65,7 +65,7 @@ impl<'v, M: Monoid> Text<'v, M> {
         }
     }
 
-    /// Where it lies, for an edit.
+    /// Where it lies, for an edit. Takes constant time.
     pub fn span(self) -> Span
         ensures { result ≡ record { root = self.entry.root; from = self.entry.from; to = self.entry.to } }
     {

@@ -38,7 +38,7 @@ impl<'v, M: Monoid> Whole<'v, M> {
     ghost use Rattle.rope.specs.Memory.{seen};
     ghost use Rattle.rope_read.specs.Texts.{bytes_in, whole_bytes};
 
-    /// The text at `root`. A root that is none of the records' counts as that of the empty text.
+    /// The text at `root`. A root that is none of the records' counts as that of the empty text. Takes constant time.
     pub fn new(view: RopeView<'v, M>, root: Root) -> Whole<'v, M>
         ensures view { result.view ≡ view.entry }
         ensures there { rooted (length view.entry.records.now) root ≡ true → result.root ≡ root }
@@ -50,14 +50,14 @@ impl<'v, M: Monoid> Whole<'v, M> {
         }
     }
 
-    /// Where it lies, for an edit.
+    /// Where it lies, for an edit. Takes constant time.
     pub fn root(self) -> Root
         ensures { result ≡ self.entry.root }
     {
         self.root
     }
 
-    /// Its bytes: the slice that is all of it.
+    /// Its bytes: the slice that is all of it. Takes constant time.
     pub fn text(self) -> Text<'v, M>
         ensures place { (result.view ≡ self.entry.view) × (result.root ≡ self.entry.root) }
         ensures bounds { (result.from ≡ 0) × (result.to ≡ length (whole_bytes self.entry)) }
@@ -97,7 +97,7 @@ impl<'v, M: Monoid> Whole<'v, M> {
     }
 }
 
-/// The fewest bytes of a tree of each height: hence the bound of 28.
+/// The fewest bytes of a tree of each height: hence the bound of 28. It does nothing.
 pub fn heights_stand()
     ensures { Fewest }
 {}

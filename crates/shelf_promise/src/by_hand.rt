@@ -23,7 +23,7 @@ pub struct Made<'b, 'a, M: Monoid> {
 
 /// Opens a draft on a fresh shelf, adds `text` to it, puts `text`, cuts from a document that is not there, and seals the
 /// draft. The shelf is one that this list of calls has reached, as the contract of each call says; so all that is told of
-/// reached shelves is told of it.
+/// reached shelves is told of it. Takes time in the length of `text`.
 pub fn by_hand<'b, 'a, M: Monoid>(
     build: &'b [u8],
     added: &'a mut [u8],

@@ -10,7 +10,8 @@ use zemor::window::ops::read_back;
 /// Looks for the window of at most five bytes that, between what has the fingerprints `front` and `back`, gives the
 /// fingerprint that `digits` write. Writes it at the start of `out` and leaves what lies behind; answers its length.
 /// Refused with SMALL BUFFER where `out` is shorter than five bytes, then with BAD FINGERPRINT where the digits are not well
-/// formed, then with NO WINDOW exactly where no window gives the fingerprint; `out` is then as it was. Takes constant time.
+/// formed, then with NO WINDOW exactly where no window gives the fingerprint; `out` is then as it was. Takes time in the
+/// length of `digits`.
 pub fn read_between(front: Sl2, digits: &[u8], back: Sl2, out: &mut [u8]) -> Result<usize, Refusal>
     ensures { ReadsBack (of_room 5 (length out.old)) (in_between front back) digits.now out.old out.new result }
 {

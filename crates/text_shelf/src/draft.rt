@@ -10,7 +10,7 @@ pub struct Draft {
 }
 
 impl Draft {
-    /// The draft's name, by which a view is asked about it.
+    /// The draft's name, by which a view is asked about it. Takes constant time.
     pub fn id(&self) -> DraftId
         ensures { result ≡ self.now.id }
     {

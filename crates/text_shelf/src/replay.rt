@@ -69,7 +69,7 @@ pub fn replay<'b, 'a, 't, M: Monoid>(
 
 /// Runs calls in order on a shelf whose open draft is brought, or none where none is open, as `replay` does on a fresh one,
 /// and gives the token of the draft that is then open. Refused with STRANGE DRAFT where what is brought is not the shelf's
-/// open draft; it is then handed back, and nothing is done.
+/// open draft; it is then handed back, and nothing is done. Each call takes the time of the public call of its name.
 pub fn resume<'b, 'a, 't, M: Monoid>(
     shelf: &mut Shelf<'b, 'a, M>,
     draft: Option<Draft>,

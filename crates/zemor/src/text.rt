@@ -22,7 +22,8 @@ pub fn fingerprint(text: &[u8]) -> Sl2
     fold(text)
 }
 
-/// What holds of products of bits: their bound, that they tell their string, and that slips always show.
+/// What holds of products of bits: their bound, that they tell their string, and that slips always show. It
+/// does nothing.
 pub fn products_stand()
     ensures bounded { Bounded }
     ensures apart { Apart }
@@ -30,7 +31,7 @@ pub fn products_stand()
     ensures slips { SlipsShow }
 {}
 
-/// Worked figures, from the definitions.
+/// Worked figures, from the definitions. It does nothing.
 pub fn figures_stand()
     ensures { Figures }
 {}

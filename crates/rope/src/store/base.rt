@@ -20,7 +20,7 @@ fn capped(build: &[u8]) -> &[u8]
 }
 
 impl<'b, 'a, M: Monoid> Store<'b, 'a, M> {
-    /// A store with no record and no added text, over the first 16,777,216 bytes of the build text.
+    /// A store with no record and no added text, over the first 16,777,216 bytes of the build text. Takes constant time.
     pub fn new(
         build: &'b [u8],
         added: &'a mut [u8],
@@ -37,35 +37,35 @@ impl<'b, 'a, M: Monoid> Store<'b, 'a, M> {
         }
     }
 
-    /// What is used, for reading.
+    /// What is used, for reading. Takes constant time.
     pub fn view(&self) -> RopeView<'_, M>
         ensures { seen result ≡ arena_of self.now }
     {
         RopeView::new(self.build, self.added.as_slice(), self.records.as_slice())
     }
 
-    /// How many bytes the build text has.
+    /// How many bytes the build text has. Takes constant time.
     pub fn build_len(&self) -> usize
         ensures { result ≡ length self.now.build.now }
     {
         self.build.len()
     }
 
-    /// How many records more there is room for.
+    /// How many records more there is room for. Takes constant time.
     pub fn free_records(&self) -> usize
         ensures { result ≡ min (length self.now.records.memory.now) MOST_RECORDS - self.now.records.used }
     {
         self.records.room()
     }
 
-    /// How many bytes more of added text there is room for.
+    /// How many bytes more of added text there is room for. Takes constant time.
     pub fn free_bytes(&self) -> usize
         ensures { result ≡ min (length self.now.added.memory.now) MOST_BYTES - self.now.added.used }
     {
         self.added.room()
     }
 
-    /// Record `i`, which tells the length, the height and the summary of its tree.
+    /// Record `i`, which tells the length, the height and the summary of its tree. Takes constant time.
     pub fn record(&self, i: u32) -> Record<M::Row>
         requires { i < self.now.records.used }
         ensures { IsRecord M.Monoid.model (arena_of self.now) i result }

@@ -9,7 +9,7 @@ use monoid::Monoid;
 const LEAF: u32 = 64;
 
 impl<'b, 'a, M: Monoid> Store<'b, 'a, M> {
-    /// A tree of a piece, in as few leaves as there can be.
+    /// A tree of a piece, in as few leaves as there can be. Takes time in the length of the piece.
     pub fn build(&mut self, piece: Piece) -> u32
         requires { Buildable self.old piece.origin piece.start piece.len }
         ensures { Built self.old self.new result piece.origin piece.start piece.len }

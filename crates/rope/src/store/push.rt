@@ -10,7 +10,7 @@ use monoid::Monoid;
 use monoid::fold::fold;
 
 impl<'b, 'a, M: Monoid> Store<'b, 'a, M> {
-    /// A leaf of a piece.
+    /// A leaf of a piece. Takes time in the length of the piece.
     pub fn push_leaf(&mut self, piece: Piece) -> u32
         requires { Leafs self.old piece.origin piece.start piece.len }
         ensures { Pushed self.old self.new result (leaf (part (arena_of self.old) piece.origin piece.start piece.len)) }
@@ -27,7 +27,7 @@ impl<'b, 'a, M: Monoid> Store<'b, 'a, M> {
         })
     }
 
-    /// An inner record over two records, the left one's text first.
+    /// An inner record over two records, the left one's text first. Takes constant time.
     pub fn push_inner(&mut self, left: u32, right: u32) -> u32
         requires { Pairs self.old left right }
         ensures { Pushed self.old self.new result (node (tree_of self.old left) (tree_of self.old right)) }

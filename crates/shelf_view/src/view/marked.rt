@@ -45,7 +45,7 @@ impl<'v> View<'v, Marked> {
     /// text of `d` the fingerprint that 32 digits write. Writes it at the start of `out` and leaves what lies behind; answers
     /// its length. Refused as `part` is, then with SMALL BUFFER where `out` is shorter than five bytes, with BAD
     /// FINGERPRINT where the digits are not well formed, and with NO WINDOW exactly where no window gives the fingerprint; `out`
-    /// is then as it was. Takes time in the height of the document.
+    /// is then as it was. Takes time in the height of the document and the length of `fingerprint`.
     pub fn read_back(
         &self,
         d: u32,

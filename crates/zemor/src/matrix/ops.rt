@@ -88,6 +88,7 @@ impl Group for Sl2 {
 
 impl Sl2 {
     /// Whether two values are equal. The contract says what `==` does not: equal values are the same value.
+    /// Takes constant time.
     pub fn equals(self, other: Sl2) -> bool
         ensures { MatchBool result (self ≡ other) (¬ (self ≡ other)) }
     {

@@ -51,7 +51,7 @@ fn of_two(x: u8, y: u8) -> Entries
     whole_product(entries(x), entries(y))
 }
 
-/// The product of the 40 bits of five bytes.
+/// The product of the 40 bits of five bytes. Takes constant time.
 pub fn of_stretch(stretch: &[u8; 5]) -> Sl2
     ensures { row result ≡ product_of (text_bits stretch.now) }
 {

@@ -266,7 +266,7 @@ const TABLE: [[u8; 4]; 256] = [
     [1, 0, 8, 1],
 ];
 
-/// The product of a byte's eight bits, the highest first.
+/// The product of a byte's eight bits, the highest first. Takes constant time.
 pub fn of_byte(byte: u8) -> Sl2
     ensures { result ≡ sl2.of_byte byte }
 {
@@ -280,7 +280,7 @@ pub fn of_byte(byte: u8) -> Sl2
     }
 }
 
-/// The same, as plain numbers.
+/// The same, as plain numbers. Takes constant time.
 pub fn entries(byte: u8) -> Entries
     ensures { result ≡ byte_product byte }
 {

@@ -15,7 +15,7 @@ use refusal::Refusal;
 use std::{fmt, str};
 
 impl Sl2 {
-    /// Sixteen bytes: a, b, c and d, each as four bytes, the highest first.
+    /// Sixteen bytes: a, b, c and d, each as four bytes, the highest first. Takes constant time.
     pub fn to_bytes(self) -> [u8; 16]
         ensures value { result ≡ bytes_of (row self) }
         ensures back { read_bytes result ≡ Some self }
@@ -30,7 +30,8 @@ impl Sl2 {
         ]
     }
 
-    /// The value that sixteen bytes write. Refused with BAD FINGERPRINT exactly where they write no value.
+    /// The value that sixteen bytes write. Refused with BAD FINGERPRINT exactly where they write no value. Takes
+    /// constant time.
     pub fn from_bytes(bytes: [u8; 16]) -> Result<Sl2, Refusal>
         ensures value { result ≡ ok_or (read_bytes bytes) BadFingerprint }
         ensures again { ReadBytes bytes result }
@@ -38,7 +39,7 @@ impl Sl2 {
         Sl2::check_row(read_entries(&bytes)).ok_or(Refusal::BadFingerprint)
     }
 
-    /// The sixteen bytes as 32 lower-case hexadecimal digits.
+    /// The sixteen bytes as 32 lower-case hexadecimal digits. Takes constant time.
     pub fn to_hex(self) -> [u8; 32]
         ensures value { result ≡ hex (bytes_of (row self)) }
         ensures back { WellFormed result × (read_hex result ≡ Some self) }
@@ -49,7 +50,7 @@ impl Sl2 {
     }
 
     /// The value that a text of 32 lower-case hexadecimal digits writes. Refused with BAD FINGERPRINT exactly where the text
-    /// is not well formed.
+    /// is not well formed. Takes time in the length of `text`.
     pub fn from_hex(text: &[u8]) -> Result<Sl2, Refusal>
         ensures value { result ≡ ok_or (read_hex text.now) BadFingerprint }
         ensures again { ReadHex text.now result }

@@ -71,7 +71,7 @@ fn peel_entries(m: Entries) -> Option<Bits>
     Some(bits)
 }
 
-/// The one string of at most 45 bits whose product is x, or none.
+/// The one string of at most 45 bits whose product is x, or none. Takes constant time.
 pub fn peel(x: Sl2) -> Option<Bits>
     ensures { Tells x result }
 {

@@ -11,7 +11,7 @@ use monoid::between;
 use refusal::Refusal;
 
 impl Window {
-    /// The window's bytes.
+    /// The window's bytes. Takes constant time.
     pub fn as_slice(&self) -> &[u8]
         ensures { result.now ≡ window_text self.now }
     {
@@ -43,7 +43,7 @@ fn window(x: Sl2) -> Option<Window>
 }
 
 /// The one window of at most five bytes between two texts, told by the fingerprints of these and of the whole. Refused with
-/// NO WINDOW exactly where none gives the whole that fingerprint.
+/// NO WINDOW exactly where none gives the whole that fingerprint. Takes constant time.
 pub fn read_back(front: Sl2, whole: Sl2, back: Sl2) -> Result<Window, Refusal>
     ensures { ReadBack front back whole result }
 {
