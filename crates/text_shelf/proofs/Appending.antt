@@ -1,5 +1,5 @@
 -- A shelf with one document more.
-use Rattle.std.proofs.Common.{◌≡◌, ℕ, ◌+◌, ◌<◌, ◌≤◌, min, true, false, ltb, List, [], ◌∷◌, ◌++◌, map, length, get_or, take, None, Option, Ok, sym, ap, ◌∙◌, append-nil, arith, length-append, Bor}
+use Rattle.std.proofs.Common.{◌≡◌, ℕ, ◌+◌, ◌<◌, ◌≤◌, min, true, false, ltb, List, [], ◌∷◌, ◌++◌, map, length, get_or, take, None, Option, Ok, Result, sym, ap, ◌∙◌, append-nil, arith, length-append, Bor}
 use Rattle.std.proofs.lemmas.List.{length-map, length-take-le, map-append, get_or_append_left}
 use Rattle.std.specs.List.{between}
 use Rattle.std.proofs.lemmas.List.Edits.{length-between}
@@ -14,13 +14,15 @@ use Rattle.rope_keep.specs.Kept.{Grows}
 use Rattle.rope_cut.specs.Parts.{spliced}
 use Rattle.shelf_view.specs.Documents.{fine, all_fine, root_in}
 use Rattle.shelf_view.specs.State.{State, text_at}
+use Rattle.refusal.specs.declared.Refusal.{Refusal}
 use Rattle.refusal.proofs.Firsts.{first_none}
 use Rattle.rope.specs.Held.{held, Gains}
 use Rattle.text_shelf.specs.Shelves.{Parts, parts, Brought, brought, Measures, measures, strings}
 use Rattle.text_shelf.specs.Calls.{appended, accepted, answer, need, brings, DraftHeight, reason, reasons, numbers_spent}
-use Rattle.text_shelf.specs.Steps.{Changed, Steps}
+use Rattle.text_shelf.specs.Steps.{Changed}
 use Rattle.text_shelf.specs.declared.call.Call.{Call}
 use Rattle.text_shelf.specs.declared.call.Call.TheVariants.{Put, Take, Cut, Splice}
+use Rattle.text_shelf.specs.declared.call.Answer.{Answer}
 use Rattle.text_shelf.specs.declared.call.Answer.TheVariants.{Made}
 use Rattle.rope.specs.declared.lent.Lent.{Lent}
 use Rattle.text_shelf.specs.declared.shelf.Shelf.{Shelf}
@@ -140,15 +142,21 @@ append s store bs n g places root text p r is fits =
       draft = draft_height_stays s.store store g.keeps s.draft s.drafted;
     }
 
+-- what an accepted call does to a shelf, which it leaves with these parts
+abbrev pub Does : {V R : Type 0} {kind : _} → Shelf V R kind → Call → Result Answer Refusal → Parts V R kind → Type 0
+Does s call a t =
+    (a ≡ Ok (answer s.mark (strings (parts s)) call))
+    × (strings t ≡ accepted s.store.build.now call (strings (parts s)))
+    × (Changed (parts s) t (brings call) (need (measures (parts s)) call) × DraftHeight call (measures (parts s)).draft (measures t).draft)
+
 -- an accepted call that appends a document
-pub appended_step : {V R : Type 0} {kind : _} (s t : Shelf V R kind) (call : Call) (k : ℕ) (text : List ℕ)
-    → reason (brought (parts s)) (measures (parts s)) (strings (parts s)) call ≡ None → k ≡ s.places.used + 1
-    → answer s.mark (strings (parts s)) call ≡ Made (length (strings (parts s)).texts)
+pub appended_does : {V R : Type 0} {kind : _} (s : Shelf V R kind) {t : Parts V R kind} (call : Call) (k : ℕ) (text : List ℕ)
+    → k ≡ s.places.used + 1 → answer s.mark (strings (parts s)) call ≡ Made (length (strings (parts s)).texts)
     → accepted s.store.build.now call (strings (parts s)) ≡ appended (strings (parts s)) text (length (brings call))
     → ((h j : ℕ) → j ≡ h → DraftHeight call h j)
-    → Appends (parts s) (parts t) text (brings call) (need (measures (parts s)) call) → Steps s call (Ok (Made k)) t
-appended_step s t call k text none n answers makes leaves a =
-    rw none (ap Ok (ap Made (n ∙ sym (count_texts (parts s))) ∙ sym answers), a.strings_are ∙ sym makes, (a.changed, leaves _ _ a.draft))
+    → Appends (parts s) t text (brings call) (need (measures (parts s)) call) → Does s call (Ok (Made k)) t
+appended_does s call k text n answers makes leaves a =
+    (ap Ok (ap Made (n ∙ sym (count_texts (parts s))) ∙ sym answers), a.strings_are ∙ sym makes, (a.changed, leaves _ _ a.draft))
 
 module _ (b : Brought) (t : Measures) (s : State) where
   pub put_fits : (text : Bor (List ℕ)) → reason b t s (Put text) ≡ None → Fits b s text.now

@@ -20,13 +20,13 @@ use Rattle.refusal.proofs.Firsts.{first_none, first_not}
 use Rattle.rope.specs.Held.{held, Gains}
 use Rattle.text_shelf.specs.Shelves.{Parts, parts, shelved, brought, measures, strings}
 use Rattle.text_shelf.specs.Calls.{with_draft, accepted, need, DraftHeight, reason, reasons}
-use Rattle.text_shelf.specs.Steps.{Changed, Steps}
+use Rattle.text_shelf.specs.Steps.{Changed}
 use Rattle.text_shelf.specs.declared.call.Call.TheVariants.{Open, Add, Seal}
 use Rattle.text_shelf.specs.declared.call.Answer.TheVariants.{Made, Opened, Done}
 use Rattle.rope.specs.declared.lent.Lent.{Lent}
 use Rattle.text_shelf.specs.declared.shelf.Shelf.{Shelf}
 use Rattle.text_shelf.proofs.Staying.{fine_root, all_fine_stays, texts_stay, heights_stay}
-use Rattle.text_shelf.proofs.Appending.{Firm, firm_of, count_texts, takes_grows, same_room, firm_after, strings_after, changed_after}
+use Rattle.text_shelf.proofs.Appending.{Firm, firm_of, count_texts, takes_grows, same_room, Does, firm_after, strings_after, changed_after}
 
 -- a shelf of which only the draft changes
 pub still : {V R : Type 0} {kind : _} (s : Parts V R kind) (d : Option Root) (o : ℕ)
@@ -41,11 +41,9 @@ still s d o = record {
   heights = λ k h. refl;
 }
 
-pub open_step : {V R : Type 0} {kind : _} (s t : Shelf V R kind) → reason (brought (parts s)) (measures (parts s)) (strings (parts s)) Open ≡ None
-    → parts t ≡ record { store = s.store; places = s.places; draft = Some None; mark = s.mark; opened = s.opened + 1 }
-    → Steps s Open (Ok (Opened (record { mark = s.mark; count = s.opened + 1 }))) t
-open_step s t none is =
-    rw none (refl, ap strings is, (subst (λ p. Changed (parts s) p [] 0) (sym is) (still (parts s) (Some None) (s.opened + 1)), ap (λ p. (measures p).draft) is))
+pub open_does : {V R : Type 0} {kind : _} (s : Shelf V R kind)
+    → Does s Open (Ok (Opened (record { mark = s.mark; count = s.opened + 1 }))) (record { store = s.store; places = s.places; draft = Some None; mark = s.mark; opened = s.opened + 1 })
+open_does s = (refl, refl, (still (parts s) (Some None) (s.opened + 1), refl))
 
 module _ {V R : Type 0} {kind : _} (m : Model V R) (s : Shelf V R kind) (d : DraftId) (text : Bor (List ℕ)) (p root : Root) (store : Store V R kind)
     (none : reason (brought (parts s)) (measures (parts s)) (strings (parts s)) (Add d text) ≡ None) (drafts : Drafts m (shelved (parts s)) p)
@@ -70,8 +68,8 @@ module _ {V R : Type 0} {kind : _} (m : Model V R) (s : Shelf V R kind) (d : Dra
     drafted = fine_root store root r short_after;
   }
 
-  pub add_step : (t : Shelf V R kind) → parts t ≡ longer_draft → Steps s (Add d text) (Ok Done) t
-  add_step t same =
+  pub add_does : Does s (Add d text) (Ok Done) longer_draft
+  add_does =
       let texts = texts_stay s.store store g.keeps (held s.places) s.documents in
       let more : length (arena_of store).added ≡ length (arena_of s.store).added + length text.now = ap length g.added ∙ length-append (arena_of s.store).added text.now in
       let after : strings longer_draft ≡ accepted s.store.build.now (Add d text) (strings (parts s)) =
@@ -89,14 +87,7 @@ module _ {V R : Type 0} {kind : _} (m : Model V R) (s : Shelf V R kind) (d : Dra
       } in
       let higher : DraftHeight (Add d text) (measures (parts s)).draft (height_in store root) =
       subst (λ h. DraftHeight (Add d text) h (height_in store root)) high up in
-      rw none (
-        refl,
-        ap strings same ∙ after,
-        (
-          subst (λ q. Changed (parts s) q text.now (need (measures (parts s)) (Add d text))) (sym same) changed,
-          subst (λ q. DraftHeight (Add d text) (measures (parts s)).draft (measures q).draft) (sym same) higher,
-        ),
-      )
+      (refl, after, (changed, higher))
 
 module _ {V R : Type 0} {kind : _} (m : Model V R) (s : Shelf V R kind) (d : DraftId) (p : Root) (places : Lent Root MOST_PLACES)
     (none : reason (brought (parts s)) (measures (parts s)) (strings (parts s)) (Seal d) ≡ None) (drafts : Drafts m (shelved (parts s)) p)
@@ -111,11 +102,11 @@ module _ {V R : Type 0} {kind : _} (m : Model V R) (s : Shelf V R kind) (d : Dra
   firm_sealed =
       firm_after (parts s) (firm_of s) s.store [] 0 grows places p (draft_text (strings (parts s))) pushes drafts.fine_root (sym drafts.text_is) None refl
 
-  pub seal_step : (t : Shelf V R kind) (k : ℕ) → parts t ≡ sealed_shelf → k ≡ s.places.used + 1 → Steps s (Seal d) (Ok (Made k)) t
-  seal_step t k same n =
+  pub seal_does : (k : ℕ) → k ≡ s.places.used + 1 → Does s (Seal d) (Ok (Made k)) sealed_shelf
+  seal_does k n =
       let after = strings_after (parts s) (firm_of s) s.store [] 0 grows places p (draft_text (strings (parts s))) pushes drafts.fine_root (sym drafts.text_is) in
       let changed = changed_after (parts s) (firm_of s) s.store [] 0 grows places p (draft_text (strings (parts s))) pushes drafts.fine_root (sym drafts.text_is) None in
-      rw none (ap (λ j. Ok (Made j)) (n ∙ sym (count_texts (parts s))), ap strings same ∙ ap (λ z. with_draft z None) after, (subst (λ q. Changed (parts s) q [] 0) (sym same) changed, ap (λ q. (measures q).draft) same))
+      (ap (λ j. Ok (Made j)) (n ∙ sym (count_texts (parts s))), ap (λ z. with_draft z None) after, (changed, refl))
 
 -- no draft is open, and one more can be counted
 pub none_open : (f : Root → List ℕ) (d : Option Root) (o : ℕ) → false ≡ is_some d → o < MOST_DRAFTS → first ((is_some (option_map f d) || leb MOST_DRAFTS o, DraftOpen) ∷ []) ≡ None

@@ -1,21 +1,24 @@
 -- Cut and splice, from what the trees tell.
-use Rattle.std.proofs.Common.{◌≡◌, ℕ, ◌+◌, ◌-◌, ◌≤◌, max, [], ◌∷◌, ◌++◌, length, get_or, take, drop, None, sym, ap, ◌∙◌, subst, arith}
+use Rattle.std.proofs.Common.{◌≡◌, ℕ, ◌+◌, ◌-◌, ◌≤◌, max, [], ◌∷◌, ◌++◌, length, get_or, take, drop, None, Option, sym, ap, ◌∙◌, subst, arith}
 use Rattle.std.specs.List.{between}
 use Rattle.refusal.specs.declared.limits.TheConstants.{MOST_PLACES, MOST_TEXT}
 use Rattle.monoid.specs.Monoid.{Model}
-use Rattle.rope.specs.Memory.{arena_of, Takes}
-use Rattle.rope.specs.Arena.{Root}
+use Rattle.rope.specs.Memory.{arena_of, Takes, seen}
+use Rattle.rope.specs.Arena.{Root, height_of}
 use Rattle.rope.specs.declared.store.Store.{Store}
 use Rattle.rope_cut.specs.Parts.{Makes, edit_need, text_in, height_in, higher, spliced}
-use Rattle.shelf_view.specs.State.{Shelved, text_at}
+use Rattle.shelf_view.specs.State.{Shelved, state_of, heights_of, text_at}
+use Rattle.shelf_view.specs.Questions.{of_document, of_part}
 use Rattle.std.proofs.lemmas.List.Edits.{length-between}
+use Rattle.refusal.specs.declared.Refusal.{Refusal}
 use Rattle.rope_read.specs.Texts.{bytes_in, whole_bytes, of_bounds, IsSlice}
 use Rattle.rope_read.specs.declared.text.Span.{Span}
 use Rattle.rope_read.specs.declared.text.Text.{Text}
 use Rattle.rope_read.specs.declared.whole.Whole.{Whole}
 use Rattle.rope_read.proofs.Slices.{bounds_lawful}
 use Rattle.shelf_view.specs.Places.{Lies, IsDocument}
-use Rattle.shelf_view.proofs.Placing.{short_of, document_text}
+use Rattle.shelf_view.proofs.Placing.{short_of, document_text, document_high}
+use Rattle.shelf_view.proofs.Reading.{part_is}
 use Rattle.text_shelf.specs.Shelves.{Parts, parts, shelved, brought, measures, strings}
 use Rattle.text_shelf.specs.Spans.{Spans}
 use Rattle.text_shelf.specs.Calls.{reason, need}
@@ -23,25 +26,48 @@ use Rattle.text_shelf.specs.declared.call.Call.TheVariants.{Cut, Splice}
 use Rattle.rope.specs.Held.{Gains}
 use Rattle.rope.specs.declared.lent.Lent.{Lent}
 use Rattle.text_shelf.specs.declared.shelf.Shelf.{Shelf}
-use Rattle.text_shelf.proofs.Appending.{Appends, append, takes_grows, cut_fits, splice_fits}
+use Rattle.text_shelf.proofs.Reasoning.{told_spliced}
+use Rattle.text_shelf.proofs.Appending.{Appends, Fits, append, takes_grows, cut_fits, splice_fits}
+
+-- the height of document d, as its door tells it
+pub high_told : {V R : Type 0} {kind : _} {m : Model V R} (v s : Shelved R) → v ≡ s → (d : ℕ) {w : Whole V R kind} → IsDocument m v d w
+    → (h : ℕ) → h ≡ height_of (seen w.view) w.root → h ≡ get_or (heights_of s) d 0
+high_told v s same d is h told = told ∙ document_high is ∙ ap (λ z. get_or (heights_of z) d 0) same
+
+-- whether x to y is a part of document d, as its text tells it
+pub part_told : {V R : Type 0} {kind : _} {m : Model V R} (v : Shelved R) (d : ℕ) {w : Whole V R kind} → IsDocument m v d w → of_document (state_of v) d ≡ None
+    → (text : Text V R kind) → bytes_in text ≡ whole_bytes w → (x y : ℕ) {o : Option Refusal} → of_bounds (bytes_in text) x y ≡ o → of_part (state_of v) d x y ≡ o
+part_told v d is known text value x y h = part_is (state_of v) d x y (bytes_in text) (value ∙ document_text is) known ∙ h
 
 -- the part x to y of document d, as its door and its slice tell it
-module _ {V R : Type 0} {kind : _} {m : Model V R} {s : Shelved R} {d : ℕ} {w : Whole V R kind} (is : IsDocument m s d w) (text part : Text V R kind)
+module _ {V R : Type 0} {kind : _} {m : Model V R} (v : Shelved R) (d : ℕ) {w : Whole V R kind} (is : IsDocument m v d w) (text part : Text V R kind)
     (place : (text.view ≡ w.view) × (text.root ≡ w.root)) (bounds : (text.from ≡ 0) × (text.to ≡ length (whole_bytes w))) (value : bytes_in text ≡ whole_bytes w)
     (x y : ℕ) (slice : IsSlice text x y part) (lawful : of_bounds (bytes_in text) x y ≡ None) where
-  pub spans : (p : Span) → p ≡ record { root = part.root; from = part.from; to = part.to } → Spans m s d x y p
+  pub spans : (p : Span) → p ≡ record { root = part.root; from = part.from; to = part.to } → Spans m v d x y p
   spans p at =
       let both = bounds_lawful (bytes_in text) x y lawful in
       rw at (record {
-        lies = subst (Lies m s d) (sym (slice.root ∙ place.1)) is.lies;
+        lies = subst (Lies m v d) (sym (slice.root ∙ place.1)) is.lies;
         from_is = omega (arith, slice.from, bounds.0);
         to_is = omega (arith, slice.to, bounds.0);
         ordered = both.0;
         within = omega (arith, both.1, ap length (value ∙ document_text is));
       })
 
-  pub part_long : length (bytes_in part) ≡ y - x
-  part_long = ap length slice.bytes ∙ length-between (bytes_in text) x y (bounds_lawful (bytes_in text) x y lawful).1
+  -- and the length of the document with document e in its place
+  pub spliced_told : (s : Shelved R) → v ≡ s → (e : ℕ) {u : Whole V R kind} → IsDocument m v e u → (n l k : ℕ)
+      → n ≡ length (whole_bytes w) → l ≡ length (bytes_in part) → k ≡ length (whole_bytes u) → n - l + k ≡ length (spliced (text_at (state_of s) d) x y (text_at (state_of s) e))
+  spliced_told s same e other n l k len-d len-part len-e =
+      let both = bounds_lawful (bytes_in text) x y lawful in
+      ap (λ z. n - z + k) (len-part ∙ ap length slice.bytes ∙ length-between (bytes_in text) x y both.1)
+      ∙ told_spliced v s same d e x y n k (len-d ∙ ap length (document_text is)) (len-e ∙ ap length (document_text other)) both.0 (omega (arith, both.1, ap length (value ∙ document_text is)))
+
+-- the part of a document is not too long, and there is a place for it
+pub part_fits : {V R : Type 0} {kind : _} {m : Model V R} (s : Shelf V R kind) (d x y : ℕ) (p : Span) → Spans m (shelved (parts s)) d x y p
+    → reason (brought (parts s)) (measures (parts s)) (strings (parts s)) (Cut d x y) ≡ None → Fits (brought (parts s)) (strings (parts s)) (between x y (text_at (strings (parts s)) d))
+part_fits s d x y p span none =
+    let short : length (text_at (strings (parts s)) d) ≤ MOST_TEXT = omega (arith, ap length span.lies.text_is, short_of (arena_of s.store) p.root span.lies.fine_root) in
+    cut_fits (brought (parts s)) (measures (parts s)) (strings (parts s)) d x y short none
 
 module _ {V R : Type 0} {kind : _} (m : Model V R) (s : Shelf V R kind) (store : Store V R kind) (places : Lent Root MOST_PLACES) (root : Root) (pushes : Gains s.places places (root ∷ [])) where
   abbrev pub after : Parts V R kind
@@ -53,9 +79,8 @@ module _ {V R : Type 0} {kind : _} (m : Model V R) (s : Shelf V R kind) (store :
         → Appends (parts s) after (between x y (text_at (strings (parts s)) d)) [] (need (measures (parts s)) (Cut d x y))
     cut_appends none made =
         let takes = subst (λ n. Takes s.store store (edit_need n)) (sym span.lies.high) made.takes in
-        let short : length (text_at (strings (parts s)) d) ≤ MOST_TEXT = omega (arith, ap length span.lies.text_is, short_of (arena_of s.store) p.root span.lies.fine_root) in
         append s store [] (need (measures (parts s)) (Cut d x y)) (takes_grows s.store store _ takes) places root (between x y (text_at (strings (parts s)) d)) pushes made.root
-        (made.text_is ∙ (λ i. between (span.from_is i) (span.to_is i) (sym span.lies.text_is i))) (cut_fits (brought (parts s)) (measures (parts s)) (strings (parts s)) d x y short none)
+        (made.text_is ∙ (λ i. between (span.from_is i) (span.to_is i) (sym span.lies.text_is i))) (part_fits s d x y p span none)
 
     pub splice_appends : (e : ℕ) (q : Root) → Lies m (shelved (parts s)) e q → reason (brought (parts s)) (measures (parts s)) (strings (parts s)) (Splice d x y e) ≡ None
         → Makes s.store store root (take p.from (text_in s.store p.root) ++ (text_in s.store q ++ drop p.to (text_in s.store p.root)))

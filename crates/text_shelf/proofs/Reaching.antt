@@ -6,8 +6,8 @@ use Rattle.rope.specs.Lents.{Fills}
 use Rattle.rope.proofs.Keeping.{fills_none, fills_trans}
 use Rattle.rope.specs.declared.record.Record.{Record}
 use Rattle.refusal.specs.declared.Refusal.{Refusal}
-use Rattle.text_shelf.specs.Rules.{Rules}
-use Rattle.text_shelf.specs.Shelves.{Parts, Fresh, parts}
+use Rattle.text_shelf.specs.Rules.{Rules, refusal}
+use Rattle.text_shelf.specs.Shelves.{Parts, Fresh, parts, brought, measures, strings}
 use Rattle.text_shelf.specs.Steps.{Stepped, StepsBy}
 use Rattle.text_shelf.specs.Reaches.{Reached, fresh, called, Went, start, one_more, used_of, Untouched, More, Spares}
 use Rattle.text_shelf.specs.declared.call.Answer.{Answer}
@@ -48,15 +48,18 @@ spares_none s = record {
 }
 
 module _ {C : Type 0} (r : Rules C) {V R : Type 0} {kind : _} (o : Parts V R kind) (s t : Shelf V R kind) (c : C) (a : Result Answer Refusal) where
-  pub spares_step : (w : Option Refusal) → Stepped r w s c a t → Spares o (parts s) → Spares o (parts t)
-  spares_step (Some e) step u = subst (λ z. Spares o (parts z)) (sym step.1) u
-  spares_step None step u =
+  spares_by : (w : Option Refusal) → Stepped r w s c a t → Spares o (parts s) → Spares o (parts t)
+  spares_by (Some e) step u = subst (λ z. Spares o (parts z)) (sym step.1) u
+  spares_by None step u =
       let k = step.2.0 in
       record {
         added = fills_trans u.added k.added;
         records = fills_trans u.records k.records;
         places = fills_trans u.places k.places;
       }
+
+  pub spares_step : StepsBy r s c a t → Spares o (parts s) → Spares o (parts t)
+  spares_step step u = spares_by (refusal r (brought (parts s)) (measures (parts s)) (strings (parts s)) c) step u
 
 -- the call at place i, whose answer is written there
 pub went_next : {C : Type 0} (r : Rules C) {V R : Type 0} {kind : _} (calls : List C) (xs : List (Result Answer Refusal)) (i : ℕ) (d : C) (a : Result Answer Refusal) (s t u : Shelf V R kind)

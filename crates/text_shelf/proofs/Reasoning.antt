@@ -74,12 +74,12 @@ module _ {R : Type 0} (b : Brought) (t : Measures) (v s : Shelved R) (same : v �
             unfolding long
             splice_long h = past_part ∙ first_is TooLong last (ap (ltb MOST_TEXT) (sym is) ∙ lt-ltb _ _ h)
 
-            pub splice_decided : n ≤ MOST_TEXT → (h : ℕ) (w : Option Refusal) → h ≡ max (get_or t.heights d 0) (get_or t.heights e 0)
+            pub splice_decided : n ≤ MOST_TEXT → (h j k : ℕ) (w : Option Refusal) → h ≡ max j k → j ≡ get_or t.heights d 0 → k ≡ get_or t.heights e 0
                 → first (memory (edit_need h) b t (state_of s)) ≡ w → reason b t (state_of s) (Splice d x y e) ≡ w
             unfolding long last
-            splice_decided short h w high decided =
+            splice_decided short h j k w high left right decided =
                 past_part ∙ first_not TooLong last (ap (ltb MOST_TEXT) (sym is) ∙ le-ltb _ _ short)
-                ∙ ap (λ k. first (memory (edit_need k) b t (state_of s))) (sym high) ∙ decided
+                ∙ ap (λ k. first (memory (edit_need k) b t (state_of s))) (sym (high ∙ (λ i. max (left i) (right i)))) ∙ decided
 
 -- the length of a spliced text
 pub length_spliced : (d e : List ℕ) (x y : ℕ) → x ≤ y → y ≤ length d → length (spliced d x y e) ≡ length d - (y - x) + length e

@@ -1,4 +1,4 @@
-use Rattle.std.proofs.Common.{◌≡◌, ℕ, [], get_or, take, refl, ◌∙◌, subst, arith}
+use Rattle.std.proofs.Common.{◌≡◌, ℕ, [], get_or, take, refl, subst, arith}
 use Rattle.std.proofs.lemmas.List.{drop-set-lt}
 use Rattle.text_shelf.specs.Calls.{every_shelf}
 use Rattle.text_shelf.specs.Shelves.{parts}
@@ -17,8 +17,8 @@ loop-i-preserved g c =
     let i = c.loop-i.i in
     let none = Put (record { ref_ptr = (0, 0); now = [] }) in (
       went_next every_shelf calls xs i none c.apply.result c.args.shelf.now c.loop-i.shelf c.apply.new.self (omega arith) (omega arith) c.loop-i.invariant.0 c.apply.ensures,
-      drop-set-lt c.min-n.result xs i c.apply.result c.loop-i-test.true ∙ c.loop-i.invariant.1,
-      spares_step every_shelf (parts c.args.shelf.now) c.loop-i.shelf c.apply.new.self (get_or calls i none) c.apply.result _ c.apply.ensures c.loop-i.invariant.2,
+      rw (drop-set-lt c.min-n.result xs i c.apply.result c.loop-i-test.true) c.loop-i.invariant.1,
+      spares_step every_shelf (parts c.args.shelf.now) c.loop-i.shelf c.apply.new.self (get_or calls i none) c.apply.result c.apply.ensures c.loop-i.invariant.2,
     )
 
 pub returns : goal.returns

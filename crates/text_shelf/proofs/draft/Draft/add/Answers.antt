@@ -1,6 +1,5 @@
-use Rattle.std.proofs.Common.{refl}
 use Rattle.text_shelf.proofs.Appending.{ghosts}
-use Rattle.text_shelf.proofs.Drafting.{firm_longer, add_step}
+use Rattle.text_shelf.proofs.Drafting.{firm_longer, add_does}
 use Rattle.text_shelf.proofs.draft.Draft.add.Goals as goal
 
 pub invariant_of-shelf : goal.invariant_of-shelf
@@ -14,5 +13,6 @@ pub returns : goal.returns
 returns g c =
     let draft = c.in_ok-root.ensures in
     let made = c.lengthen.ensures in
-    add_step g.M.Monoid.model c.args.shelf.now c.args.self.now.id c.args.text c.in_ok-root.root c.lengthen.result c.lengthen.new.store
-    draft.0 draft.1 made.grows made.root made.text made.high _ refl
+    rw draft.0
+    (add_does g.M.Monoid.model c.args.shelf.now c.args.self.now.id c.args.text c.in_ok-root.root c.lengthen.result c.lengthen.new.store
+    draft.0 draft.1 made.grows made.root made.text made.high)

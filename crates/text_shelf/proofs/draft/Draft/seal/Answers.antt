@@ -1,10 +1,10 @@
-use Rattle.std.proofs.Common.{refl, arith}
+use Rattle.std.proofs.Common.{arith}
 use Rattle.refusal.proofs.Firsts.{first_none}
 use Rattle.text_shelf.specs.Shelves.{parts, brought, measures, strings}
 use Rattle.text_shelf.specs.Calls.{reasons}
 use Rattle.text_shelf.specs.declared.call.Call.TheVariants.{Seal}
 use Rattle.text_shelf.proofs.Appending.{ghosts, unspent}
-use Rattle.text_shelf.proofs.Drafting.{firm_sealed, seal_step}
+use Rattle.text_shelf.proofs.Drafting.{firm_sealed, seal_does}
 use Rattle.text_shelf.proofs.draft.Draft.seal.Goals as goal
 
 pub push-requires : goal.push-requires
@@ -25,7 +25,8 @@ returns-in-Ok g c =
     let push = c.push.ensures.gains in
     record {
       step =
-          seal_step g.M.Monoid.model c.args.shelf.now c.args.self.id c.in-Ok.root c.push.new.self draft.0 draft.1
-          push _ c.push.result refl c.push.ensures.value;
+          rw draft.0
+          (seal_does g.M.Monoid.model c.args.shelf.now c.args.self.id c.in-Ok.root c.push.new.self draft.0 draft.1
+          push c.push.result c.push.ensures.value);
       back = tt;
     }
