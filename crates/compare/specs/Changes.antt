@@ -15,7 +15,7 @@ back_of a b = front_of (reverse a) (reverse b)
 
 -- both parts begin where the texts first differ, and end before what they have in common at their ends; with the new
 -- part in the place of the old one, the old text is the new one
-pub record Changed (old new : List ℕ) (c : Change) : Type 0 where
+pub record IsChange (old new : List ℕ) (c : Change) : Type 0 where
   pub differ : ¬ (old ≡ new)
   pub old_from : c.old.from ≡ front_of old new
   pub new_from : c.new.from ≡ c.old.from

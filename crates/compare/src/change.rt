@@ -1,7 +1,7 @@
 //! Where two texts part, and the lines of a part.
 ghost use Rattle.std.specs.Prelude.{◌≡◌, ◌<◌, ◌≤◌, length, reverse, map, position, take_while, ◌-◌, IfOk, IfSome, MatchOption};
 ghost use Rattle.std.specs.Char.{is_ascii_digit};
-ghost use Rattle.compare.specs.Changes.{front_of, back_of, Changed, Lines, no_newline, first_digits};
+ghost use Rattle.compare.specs.Changes.{front_of, back_of, IsChange, Lines, no_newline, first_digits};
 
 use std::alloc::{AllocError, Global};
 
@@ -45,7 +45,7 @@ fn common_back(a: &[u8], b: &[u8]) -> usize
 
 /// The change from one text to the other, from where they first part to where they last do; `None` where they are equal.
 pub fn difference(old: &[u8], new: &[u8]) -> Option<Change>
-    ensures { MatchOption result (old.now ≡ new.now) (Changed old.now new.now) }
+    ensures { MatchOption result (old.now ≡ new.now) (IsChange old.now new.now) }
 {
     if old == new {
         return None;

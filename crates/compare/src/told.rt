@@ -1,6 +1,6 @@
 //! What a marked shelf tells of its documents, for a reader.
 ghost use Rattle.refusal.specs.Refusals.{Answers};
-ghost use Rattle.shelf_view.specs.State.{strings, text_at};
+ghost use Rattle.shelf_view.specs.State.{strings_shown, text_at};
 ghost use Rattle.shelf_view.specs.Questions.{of_document, of_part};
 ghost use Rattle.compare.specs.Shown.{IsPlace, IsTold};
 
@@ -39,7 +39,7 @@ impl fmt::Display for Place {
 
 /// A place in document `d`.
 pub fn place_in<'v>(view: MarkedView<'v>, d: u32, place: usize) -> Result<Place, Refusal>
-    ensures { Answers (of_part (strings view.entry) d 0 place) (IsPlace (text_at (strings view.entry) d) place) result }
+    ensures { Answers (of_part (strings_shown view.entry) d 0 place) (IsPlace (text_at (strings_shown view.entry) d) place) result }
 {
     let front = view.part_summary(d, 0, place)?;
     Ok(Place { place, front })
@@ -66,7 +66,7 @@ impl fmt::Display for Told {
 
 /// What is told of document `d`.
 pub fn tell<'v>(view: MarkedView<'v>, d: u32) -> Result<Told, Refusal>
-    ensures { Answers (of_document (strings view.entry) d) (IsTold (text_at (strings view.entry) d)) result }
+    ensures { Answers (of_document (strings_shown view.entry) d) (IsTold (text_at (strings_shown view.entry) d)) result }
 {
     let document = view.document(d)?;
     Ok(Told {

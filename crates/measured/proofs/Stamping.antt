@@ -13,7 +13,7 @@ use Rattle.refusal.specs.declared.Refusal.{Refusal}
 use Rattle.text_shelf.specs.Shelves.{parts, brought, measures, strings}
 use Rattle.text_shelf.specs.Calls.{appended, accepted, answer, reasons, every_shelf}
 use Rattle.text_shelf.specs.Steps.{Stepped, Steps, made}
-use Rattle.text_shelf.specs.Whys.{why_call}
+use Rattle.text_shelf.specs.Steps.{reason_on}
 use Rattle.text_shelf.specs.declared.call.Call.{Call}
 use Rattle.text_shelf.specs.declared.call.Call.TheVariants.{Put, Take, Splice}
 use Rattle.text_shelf.specs.declared.call.Answer.{Answer}
@@ -28,7 +28,7 @@ stamped_more text (b ∷ places) a = stamped_more (spliced text b (b + 8) (codes
 
 -- an accepted call that appends this text
 pub record Adds {V R : Type 0} {kind : _} (s t : Shelf V R kind) (call : Call) (n : ℕ) (text : List ℕ) : Type 0 where
-  pub none : why_call s call ≡ None
+  pub none : reason_on every_shelf s call ≡ None
   pub number : n ≡ length (strings (parts s)).texts
   pub texts : (strings (parts t)).texts ≡ (strings (parts s)).texts ++ (text ∷ [])
   pub build : t.store.build.now ≡ s.store.build.now
@@ -41,9 +41,9 @@ pub adds : {V R : Type 0} {kind : _} (s t : Shelf V R kind) (call : Call) (n k :
     → accepted s.store.build.now call (strings (parts s)) ≡ appended (strings (parts s)) text k → answer s.mark (strings (parts s)) call ≡ Made (length (strings (parts s)).texts)
     → Steps s call (made (Ok n)) t → Adds s t call n text
 unfolding number_in
-adds s t call n k text makes answers step = by (why_call s call) refl step
+adds s t call n k text makes answers step = by (reason_on every_shelf s call) refl step
   where
-    by : (w : Option Refusal) → why_call s call ≡ w → Stepped every_shelf w s call (made (Ok n)) t → Adds s t call n text
+    by : (w : Option Refusal) → reason_on every_shelf s call ≡ w → Stepped every_shelf w s call (made (Ok n)) t → Adds s t call n text
     by (Some e) h p = absurd (let z : ◌≡◌ {A = Result Answer Refusal} (Ok (Made n)) (Err e) = p.0 in cc)
     by None h p = record {
       none = h;
@@ -74,13 +74,13 @@ module _ {V R : Type 0} {kind : _} {s t : Shelf V R kind} {call : Call} {n : ℕ
   )
 
 -- what is taken lies within the build text
-pub within : {V R : Type 0} {kind : _} (s : Shelf V R kind) (a b : ℕ) → why_call s (Take a b) ≡ None → b ≤ length s.store.build.now
+pub within : {V R : Type 0} {kind : _} (s : Shelf V R kind) (a b : ℕ) → reason_on every_shelf s (Take a b) ≡ None → b ≤ length s.store.build.now
 within s a b none =
     let pass = first_none (reasons (brought (parts s)) (measures (parts s)) (strings (parts s)) (Take a b)) none in
     ltb-false _ _ (or_parts (ltb b a) (ltb (length s.store.build.now) b) pass.0).1
 
 -- the end of eight bytes that a splice took is no sum that was cut off
-pub eight : {V R : Type 0} {kind : _} (s : Shelf V R kind) (d a b e : ℕ) → why_call s (Splice d a b e) ≡ None → b ≡ min (a + 8) 18446744073709551615 → b ≡ a + 8
+pub eight : {V R : Type 0} {kind : _} (s : Shelf V R kind) (d a b e : ℕ) → reason_on every_shelf s (Splice d a b e) ≡ None → b ≡ min (a + 8) 18446744073709551615 → b ≡ a + 8
 eight s d a b e none cut =
     let z = strings (parts s) in
     let text = text_at z d in

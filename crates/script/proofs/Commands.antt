@@ -9,7 +9,7 @@ use Rattle.netstring.specs.Netstring.{netstring, NetstringAt}
 use Rattle.netstring.proofs.Fronts.{parts}
 use Rattle.netstring.proofs.Puts.{long}
 use Rattle.script.specs.Words.{spelling}
-use Rattle.script.specs.Commands.{word, numbers, arguments, places, netstrings, places_from, content, ReadAt}
+use Rattle.script.specs.Commands.{word, number_arguments, arguments, places, netstrings, places_from, content, ReadAt}
 use Rattle.script.specs.Commands.Misread.{no_command}
 use Rattle.script.specs.Parsing.{TextAt, NumbersAt, NoNumbersAt, PartsAt, NoPartsAt, CommandInside}
 use Rattle.refusal.specs.declared.Refusal.TheVariants.{BadCall}
@@ -50,14 +50,14 @@ numbered words.Splice = true
 numbered words.Mark = true
 numbered words.Text = true
 
-counted : (h : Command) → length (numbers h) ≡ count (word h)
+counted : (h : Command) → length (number_arguments h) ≡ count (word h)
 counted (Put t) = refl
 counted (Cut d a b) = refl
 counted (Splice d a b e) = refl
 counted (Mark d) = refl
 counted (Text d) = refl
 
-all_numbers : (h : Command) → numbered (word h) ≡ true → arguments h ≡ map decimal (numbers h)
+all_numbers : (h : Command) → numbered (word h) ≡ true → arguments h ≡ map decimal (number_arguments h)
 all_numbers (Put t) e = cc
 all_numbers (Cut d a b) e = refl
 all_numbers (Splice d a b x) e = refl
@@ -74,7 +74,7 @@ module _ (s c : List ℕ) (i j : ℕ) (w : Word) (r : NetstringAt s i c j) (is :
   no_numbers : numbered w ≡ true → NoNumbersAt s j (count w) → NoPartsAt s i
   no_numbers y no' h t l e =
       let b = behind h t e in
-      no' (numbers h) t (counted h ∙ ap count b.0) l (b.1 ∙ ap (λ z. netstrings z ++ t) (all_numbers h (ap numbered b.0 ∙ y)))
+      no' (number_arguments h) t (counted h ∙ ap count b.0) l (b.1 ∙ ap (λ z. netstrings z ++ t) (all_numbers h (ap numbered b.0 ∙ y)))
 
   -- behind the word, so far the arguments of k reach
   reaches : (k : Command) (m : ℕ) → word k ≡ w → m ≡ j + length (netstrings (arguments k)) → m ≡ i + length (content k)
@@ -90,21 +90,21 @@ module _ (s c : List ℕ) (i j : ℕ) (w : Word) (r : NetstringAt s i c j) (is :
   from : (k : Command) → word k ≡ w → j ≡ i + length (netstring (spelling (word k)))
   from k v = spans s c i j r ∙ ap (λ z. i + length (netstring z)) (is ∙ ap spelling (sym v))
 
-  with_numbers : (k : Command) (m : ℕ) → word k ≡ w → numbered w ≡ true → NumbersAt s j (numbers k) (places k) m → PartsAt s i k m
+  with_numbers : (k : Command) (m : ℕ) → word k ≡ w → numbered w ≡ true → NumbersAt s j (number_arguments k) (places k) m → PartsAt s i k m
   with_numbers k m v y f =
-      let a : arguments k ≡ map decimal (numbers k) = all_numbers k (ap numbered v ∙ y) in record {
-        lawful = f.few;
+      let a : arguments k ≡ map decimal (number_arguments k) = all_numbers k (ap numbered v ∙ y) in record {
+        digits = f.few;
         stands = stands k m v (f.stands ∙ ap (λ z. netstrings z ++ drop m s) (sym a));
         reach = reaches k m v (f.reach ∙ ap (λ z. j + length (netstrings z)) (sym a));
         ends = λ h t l e. (let b = behind h t e in
-            (f.only (numbers h) t (counted h ∙ ap count (b.0 ∙ sym v) ∙ sym (counted k)) l (b.1 ∙ ap (λ z. netstrings z ++ t) (all_numbers h (ap numbered b.0 ∙ y)))).1);
+            (f.only (number_arguments h) t (counted h ∙ ap count (b.0 ∙ sym v) ∙ sym (counted k)) l (b.1 ∙ ap (λ z. netstrings z ++ t) (all_numbers h (ap numbered b.0 ∙ y)))).1);
         placed = f.placed ∙ ap (λ z. places_from j z) (sym a) ∙ ap (λ z. places_from z (arguments k)) (from k v);
       }
 
   with_text : (t : Argument (Bor (List ℕ))) (m : ℕ) → w ≡ words.Put → TextAt s j t.value.now t.at m → PartsAt s i (Put t) m
   with_text t m v f =
       let a = append-nil (netstring t.value.now) in record {
-        lawful = tt;
+        digits = tt;
         stands = stands (Put t) m (sym v) (f.stands.stands ∙ ap (λ z. z ++ drop m s) (sym a));
         reach = reaches (Put t) m (sym v) (spans s t.value.now j m f.stands ∙ ap (λ z. j + length z) (sym a));
         ends = λ h z l e. (let b = behind h z e in ends_with h z (b.0 ∙ v) b.1 f);
@@ -134,7 +134,7 @@ module _ (a b : Bor (List ℕ)) (same : b ≡ a) (i j : ℕ) (c : List ℕ) (w :
       no_numbers a.now c i j v r (is ∙ ap spelling e) y (subst (λ z. NoNumbersAt z.now j (count v)) same no')
 
   pub some : (k : Command) (xs : List (Argument ℕ)) (m : ℕ) → w ≡ word k → numbered (word k) ≡ true → length xs ≡ count (word k)
-      → numbers k ≡ map (λ x. x.value) (listed xs 0 (count (word k))) → places k ≡ map (λ x. x.at) (listed xs 0 (count (word k)))
+      → number_arguments k ≡ map (λ x. x.value) (listed xs 0 (count (word k))) → places k ≡ map (λ x. x.at) (listed xs 0 (count (word k)))
       → NumbersAt b.now j (map (λ x. x.value) xs) (map (λ x. x.at) xs) m → PartsAt a.now i k m
   some k xs m e y len ns ps f =
       let all : xs ≡ listed xs 0 (count (word k)) = lists xs 0 (count (word k)) (omega arith) in
@@ -155,7 +155,7 @@ ended s i k m f = by (eqb m (length s)) refl
     by : (b : Bool) → eqb m (length s) ≡ b → CommandInside s i (then_some b k)
     by true h =
         let none_left : drop m s ≡ [] = drop_all m s (grind (arith, nat_tests)) in
-        (f.lawful, f.stands ∙ ap (λ z. content k ++ z) none_left ∙ append-nil (content k), f.placed)
+        (f.digits, f.stands ∙ ap (λ z. content k ++ z) none_left ∙ append-nil (content k), f.placed)
     by false h = λ x l e. (let o = f.ends x [] l (sym e ∙ sym (append-nil (content x))) in
         let q : length s ≤ m = omega (arith, ap length o, length-drop m s) in
         absurd (grind (arith, nat_tests, within s i k m f)))
@@ -178,6 +178,6 @@ read_there s c i j (Some k) r h =
     let p : j - 1 - length c ≡ i + length (decimal (length (content k))) + 1 = (omega (arith, spans s c i j r, long c) ∙ ap (λ z. i + length (decimal (length z)) + 1) is) in
     record {
       stands = subst (λ z. NetstringAt s i z j) is r;
-      lawful = h.0;
+      digits = h.0;
       placed = h.2 ∙ ap (λ q. places_from (q + length (netstring (spelling (word k)))) (arguments k)) p;
     }

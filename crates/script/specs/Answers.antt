@@ -36,20 +36,20 @@ text_said None text = Ok text
 text_said (Some e) text = Err e
 
 -- mark answers the fingerprint of a document,
-abbrev pub mark_of : State → ℕ → Result (List ℕ) Refusal
-mark_of s d = text_said (of_document s d) (written (fingerprint (text_at s d)))
+abbrev pub said_to_mark : State → ℕ → Result (List ℕ) Refusal
+said_to_mark s d = text_said (of_document s d) (written (fingerprint (text_at s d)))
 
 -- and text its text; one above MOST_TOLD bytes fits no answer
-abbrev pub text_of : State → ℕ → Result (List ℕ) Refusal
-text_of s d = text_said (first ((unknown s d, NoDocument) ∷ (nat_lt MOST_TOLD (length (text_at s d)), SmallBuffer) ∷ [])) (text_at s d)
+abbrev pub said_to_text : State → ℕ → Result (List ℕ) Refusal
+said_to_text s d = text_said (first ((unknown s d, NoDocument) ∷ (nat_lt MOST_TOLD (length (text_at s d)), SmallBuffer) ∷ [])) (text_at s d)
 
 -- what is said to a command, or to what is none, on the shelf s; and the shelf t that is left
 abbrev pub Says : {V R : Type 0} {kind : _} → Shelf V R kind → Result Command Refusal → Result (List ℕ) Refusal → Shelf V R kind → Type 0
 Says s (Ok (Put text)) said t = SaysNumber s (on_shelf.Put text.value) said t
 Says s (Ok (Cut d a b)) said t = SaysNumber s (on_shelf.Cut d.value a.value b.value) said t
 Says s (Ok (Splice d a b e)) said t = SaysNumber s (on_shelf.Splice d.value a.value b.value e.value) said t
-Says s (Ok (Mark d)) said t = (said ≡ mark_of (strings (parts s)) d.value) × (t ≡ s)
-Says s (Ok (Text d)) said t = (said ≡ text_of (strings (parts s)) d.value) × (t ≡ s)
+Says s (Ok (Mark d)) said t = (said ≡ said_to_mark (strings (parts s)) d.value) × (t ≡ s)
+Says s (Ok (Text d)) said t = (said ≡ said_to_text (strings (parts s)) d.value) × (t ≡ s)
 Says s (Err e) said t = (said ≡ Err e) × (t ≡ s)
 
 -- what stands in an answer: what is said, or "-N@P" with the refusal's number and the place of the command's netstring

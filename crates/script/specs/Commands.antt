@@ -19,20 +19,20 @@ word (Mark d) = words.Mark
 word (Text d) = words.Text
 
 -- its number arguments
-abbrev pub numbers : Command → List ℕ
-numbers (Put text) = []
-numbers (Cut d a b) = d.value ∷ a.value ∷ b.value ∷ []
-numbers (Splice d a b e) = d.value ∷ a.value ∷ b.value ∷ e.value ∷ []
-numbers (Mark d) = d.value ∷ []
-numbers (Text d) = d.value ∷ []
+abbrev pub number_arguments : Command → List ℕ
+number_arguments (Put text) = []
+number_arguments (Cut d a b) = d.value ∷ a.value ∷ b.value ∷ []
+number_arguments (Splice d a b e) = d.value ∷ a.value ∷ b.value ∷ e.value ∷ []
+number_arguments (Mark d) = d.value ∷ []
+number_arguments (Text d) = d.value ∷ []
 
 -- its arguments, as they are written
 abbrev pub arguments : Command → List (List ℕ)
 arguments (Put text) = text.value.now ∷ []
-arguments (Cut d a b) = map decimal (numbers (Cut d a b))
-arguments (Splice d a b e) = map decimal (numbers (Splice d a b e))
-arguments (Mark d) = map decimal (numbers (Mark d))
-arguments (Text d) = map decimal (numbers (Text d))
+arguments (Cut d a b) = map decimal (number_arguments (Cut d a b))
+arguments (Splice d a b e) = map decimal (number_arguments (Splice d a b e))
+arguments (Mark d) = map decimal (number_arguments (Mark d))
+arguments (Text d) = map decimal (number_arguments (Text d))
 
 -- the places of its arguments
 abbrev pub places : Command → List ℕ
@@ -46,8 +46,8 @@ places (Text d) = d.at ∷ []
 abbrev pub few_digits : ℕ → Type 0
 few_digits n = n ≤ MOST_NUMBER
 
-abbrev pub Lawful : Command → Type 0
-Lawful k = AllByRecursion few_digits (numbers k)
+abbrev pub FewDigits : Command → Type 0
+FewDigits k = AllByRecursion few_digits (number_arguments k)
 
 -- the netstrings of these contents, one behind the other
 abbrev pub netstrings : List (List ℕ) → List ℕ
@@ -65,13 +65,13 @@ content k = netstrings (spelling (word k) ∷ arguments k)
 -- a command stands in the script s at the place i; behind it is the place j
 pub record CommandAt (s : List ℕ) (i : ℕ) (k : Command) (j : ℕ) : Type 0 where
   pub stands : NetstringAt s i (content k) j
-  pub lawful : Lawful k
+  pub digits : FewDigits k
   -- each argument has its own place in the script
   pub placed : places k ≡ places_from (i + length (decimal (length (content k))) + 1 + length (netstring (spelling (word k)))) (arguments k)
 
 -- these bytes are no command
 abbrev pub NoCommand : List ℕ → Type 0
-NoCommand c = (k : Command) → Lawful k → content k ≢ c
+NoCommand c = (k : Command) → FewDigits k → content k ≢ c
 
 -- why no command is read at a place: what stands there is no netstring, and then the place behind it is the script's end;
 -- or a netstring stands there, and it holds no command

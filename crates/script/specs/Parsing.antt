@@ -2,7 +2,7 @@
 use Rattle.std.specs.Prelude.{◌≡◌, ℕ, ◌+◌, List, [], ◌∷◌, ◌++◌, map, length, drop, decimal, Some, None, Option, ◌≢◌}
 use Rattle.std.specs.List.{AllByRecursion}
 use Rattle.netstring.specs.Netstring.{netstring, NetstringAt}
-use Rattle.script.specs.Commands.{few_digits, netstrings, places_from, word, arguments, places, Lawful, content, NoCommand}
+use Rattle.script.specs.Commands.{few_digits, netstrings, places_from, word, arguments, places, FewDigits, content, NoCommand}
 use Rattle.script.specs.Words.{spelling}
 use Rattle.script.specs.declared.command.Argument.{Argument}
 use Rattle.script.specs.declared.command.Command.{Command}
@@ -30,18 +30,18 @@ ArgumentsAt s i xs j = NumbersAt s i (map (λ a. a.value) xs) (map (λ a. a.at) 
 
 -- the word and the arguments of k are written from i to j, and those of no other command
 pub record PartsAt (s : List ℕ) (i : ℕ) (k : Command) (j : ℕ) : Type 0 where
-  pub lawful : Lawful k
+  pub digits : FewDigits k
   pub stands : drop i s ≡ content k ++ drop j s
   pub reach : j ≡ i + length (content k)
-  pub ends : (h : Command) (t : List ℕ) → Lawful h → drop i s ≡ content h ++ t → t ≡ drop j s
+  pub ends : (h : Command) (t : List ℕ) → FewDigits h → drop i s ≡ content h ++ t → t ≡ drop j s
   pub placed : places k ≡ places_from (i + length (netstring (spelling (word k)))) (arguments k)
 
 -- those of no command are
 abbrev pub NoPartsAt : List ℕ → ℕ → Type 0
-NoPartsAt s i = (k : Command) (t : List ℕ) → Lawful k → drop i s ≢ content k ++ t
+NoPartsAt s i = (k : Command) (t : List ℕ) → FewDigits k → drop i s ≢ content k ++ t
 
 -- the bytes from i to the end are a command
 abbrev pub CommandInside : List ℕ → ℕ → Option Command → Type 0
 CommandInside s i None = NoCommand (drop i s)
 CommandInside s i (Some k) =
-    Lawful k × (drop i s ≡ content k) × (places k ≡ places_from (i + length (netstring (spelling (word k)))) (arguments k))
+    FewDigits k × (drop i s ≡ content k) × (places k ≡ places_from (i + length (netstring (spelling (word k)))) (arguments k))

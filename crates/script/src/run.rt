@@ -6,7 +6,7 @@ ghost use Rattle.text_shelf.specs.Shelves.{parts, strings};
 ghost use Rattle.refusal.specs.declared.Refusal.{Refusal};
 ghost use Rattle.refusal.specs.declared.Refusal.TheVariants.{SmallBuffer};
 ghost use Rattle.script.specs.declared.answer.TheConstants.{MOST_ANSWER};
-ghost use Rattle.script.specs.Answers.{Turn, Ran, RanInto, RanAll, Says, WritesSaid, number_said, mark_of, text_of};
+ghost use Rattle.script.specs.Answers.{Turn, Ran, RanInto, RanAll, Says, WritesSaid, number_said, said_to_mark, said_to_text};
 
 use crate::answer::{
     MOST_ANSWER, MOST_TOLD, append, append_text, begin, write_digits, write_number, write_refusal,
@@ -37,7 +37,7 @@ fn tell_number(made: Result<u32, Refusal>, out: &mut [u8]) -> Result<usize, Refu
 /// Tells the fingerprint of document `d`.
 fn tell_mark<'b, 'a>(shelf: &MarkedShelf<'b, 'a>, d: u32, out: &mut [u8]) -> Result<usize, Refusal>
     requires { MOST_ANSWER ≤ length out.old }
-    ensures { WritesSaid (mark_of (strings (parts shelf.now)) d) out.old result out.new }
+    ensures { WritesSaid (said_to_mark (strings (parts shelf.now)) d) out.old result out.new }
 {
     let summary = shelf.view().document(d)?.summary();
     Ok(write_digits(&summary.first.to_hex(), out))
@@ -47,7 +47,7 @@ fn tell_mark<'b, 'a>(shelf: &MarkedShelf<'b, 'a>, d: u32, out: &mut [u8]) -> Res
 #[tactic(auto, using(crate::proofs::Writing::short))]
 fn tell_text<'b, 'a>(shelf: &MarkedShelf<'b, 'a>, d: u32, out: &mut [u8]) -> Result<usize, Refusal>
     requires { MOST_ANSWER ≤ length out.old }
-    ensures { WritesSaid (text_of (strings (parts shelf.now)) d) out.old result out.new }
+    ensures { WritesSaid (said_to_text (strings (parts shelf.now)) d) out.old result out.new }
 {
     let document = shelf.view().document(d)?;
     let len = document.len();

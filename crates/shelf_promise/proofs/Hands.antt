@@ -7,7 +7,8 @@ use Rattle.shelf_view.specs.declared.draft_id.DraftId.{DraftId}
 use Rattle.refusal.specs.declared.Refusal.{Refusal}
 use Rattle.refusal.specs.declared.Refusal.TheVariants.{NoDocument}
 use Rattle.text_shelf.specs.Shelves.{Fresh, parts, brought, measures, strings}
-use Rattle.text_shelf.specs.Calls.{every_shelf, reason}
+use Rattle.text_shelf.specs.Calls.{every_shelf}
+use Rattle.text_shelf.specs.Steps.{reason_on}
 use Rattle.text_shelf.specs.Reaches.{Reached, fresh, called, used_of}
 use Rattle.text_shelf.specs.Steps.{Stepped, Steps, made, Back}
 use Rattle.text_shelf.specs.declared.draft.Draft.{Draft}
@@ -45,7 +46,7 @@ pub cut_refused : {V R : Type 0} {kind : _} (s t : Shelf V R kind) (r : Result �
 cut_refused s t r step =
     let few : length (strings (parts s)).texts ≤ 4294967295 = omega (arith, count_texts (parts s), s.places.few) in
     let beyond : leb (length (strings (parts s)).texts) 4294967295 ≡ true = grind (arith, nat_tests) in
-    by_reason s t r (reason (brought (parts s)) (measures (parts s)) (strings (parts s)) (Cut 4294967295 0 0)) (rw beyond)
+    by_reason s t r (reason_on every_shelf s (Cut 4294967295 0 0)) (rw beyond)
     step
 
 -- what a refused seal hands back

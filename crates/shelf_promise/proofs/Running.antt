@@ -9,7 +9,7 @@ use Rattle.rope.specs.declared.record.Record.{Record}
 use Rattle.shelf_view.specs.State.{State, text_at}
 use Rattle.refusal.specs.declared.Refusal.{Refusal}
 use Rattle.text_shelf.specs.Shelves.{Brought, Fresh, parts, shelved, brought, measures, strings}
-use Rattle.text_shelf.specs.Rules.{Rules, refusal, next}
+use Rattle.text_shelf.specs.Rules.{Rules, reason, next}
 use Rattle.text_shelf.specs.Reaches.{Reached, fresh, called, used_of}
 use Rattle.text_shelf.specs.Steps.{Stepped, StepsBy}
 use Rattle.text_shelf.specs.declared.call.Answer.{Answer}
@@ -40,11 +40,11 @@ module _ {C : Type 0} (r : Rules C) {V R : Type 0} {kind : _} (b : Brought) (cs 
   lengths : length (cs ++ (c ∷ [])) ≡ length (xs ++ (a ∷ []))
   lengths = length-append cs (c ∷ []) ∙ ap (λ n. n + 1) g.long ∙ sym (length-append xs (a ∷ []))
 
-  reason_there : refusal r (brought (parts s)) (measures (parts s)) (strings (parts s)) c ≡ refusal r b (measures (parts s)) (after r b.build nothing cs xs) c
-  reason_there = λ i. refusal r (g.memory i) (measures (parts s)) (g.state i) c
+  reason_there : reason r (brought (parts s)) (measures (parts s)) (strings (parts s)) c ≡ reason r b (measures (parts s)) (after r b.build nothing cs xs) c
+  reason_there = λ i. reason r (g.memory i) (measures (parts s)) (g.state i) c
 
   -- by the reason to refuse it
-  by_reason : (w : Option Refusal) → refusal r b (measures (parts s)) (after r b.build nothing cs xs) c ≡ w → Stepped r w s c a t → Further r b cs xs s t c a
+  by_reason : (w : Option Refusal) → reason r b (measures (parts s)) (after r b.build nothing cs xs) c ≡ w → Stepped r w s c a t → Further r b cs xs s t c a
   by_reason (Some e) why step =
       let stays : is_ok a ≡ false = ap is_ok step.0 in
       let same : measures (parts t) ≡ measures (parts s) = ap (λ z. measures (parts z)) step.1 in
@@ -66,7 +66,7 @@ module _ {C : Type 0} (r : Rules C) {V R : Type 0} {kind : _} (b : Brought) (cs 
       let taken : is_ok a ≡ true = ap is_ok step.0 in
       let grown : Grown r c (after r b.build nothing cs xs) (measures (parts s)) (measures (parts t)) =
       record {
-        more = changed.records.more;
+        more = changed.spares.records.more;
         cost = changed.cost;
         heights = λ d h. changed.heights d (subst (λ z. d < length z.texts) (sym g.state) h);
         draft = step.2.1;
@@ -86,7 +86,7 @@ module _ {C : Type 0} (r : Rules C) {V R : Type 0} {kind : _} (b : Brought) (cs 
       }
 
   pub further : StepsBy r s c a t → Further r b cs xs s t c a
-  further step = by_reason (refusal r b (measures (parts s)) (after r b.build nothing cs xs) c) refl (subst (λ w. Stepped r w s c a t) reason_there step)
+  further step = by_reason (reason r b (measures (parts s)) (after r b.build nothing cs xs) c) refl (subst (λ w. Stepped r w s c a t) reason_there step)
 
 -- a fresh shelf
 module _ {V R : Type 0} {kind : _} (s : Shelf V R kind) (build added : List ℕ) (records : List (Record R)) (places : List Root) (mark : ℕ)

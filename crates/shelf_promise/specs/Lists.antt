@@ -4,7 +4,7 @@ use Rattle.monoid.specs.Monoid.{Model, fold_of}
 use Rattle.shelf_view.specs.State.{State, text_at, kept_values}
 use Rattle.refusal.specs.declared.Refusal.{Refusal}
 use Rattle.text_shelf.specs.Shelves.{Brought, Measures, parts, shelved, brought, measures, strings}
-use Rattle.text_shelf.specs.Rules.{Rules, refusal, next}
+use Rattle.text_shelf.specs.Rules.{Rules, reason, next}
 use Rattle.text_shelf.specs.Reaches.{Reached, fresh, called}
 use Rattle.text_shelf.specs.declared.call.Answer.{Answer}
 use Rattle.text_shelf.specs.declared.shelf.Shelf.{Shelf}
@@ -40,7 +40,7 @@ Goes r false c s t u = u ≡ t
 -- the call c, made where the list of strings is z and the shelf tells t: it is refused exactly where a numbered reason holds,
 -- with the first that does, and otherwise answers what the list of strings says
 pub record OneCall {C : Type 0} (r : Rules C) (b : Brought) (z : State) (t : Measures) (c : C) (a : Result Answer Refusal) (u : Measures) : Type 0 where
-  pub answer : a ≡ answered (refusal r b t z c) (r.answer b.mark z c)
+  pub answer : a ≡ answered (reason r b t z c) (r.answer b.mark z c)
   pub goes : Goes r (is_ok a) c z t u
 
 -- so it is of each call of the list by which a shelf was reached, by the very shelves that it went through

@@ -44,9 +44,6 @@ height_of_draft s = height_of s.arena (root_in s.draft)
 abbrev pub kept_values : {V R : Type 0} → Model V R → Shelved R → List V
 kept_values m s = m.empty ∷ map (kept_of m s.arena) s.roots
 
-abbrev pub draft_value : {V R : Type 0} → Model V R → Shelved R → V
-draft_value m s = kept_of m s.arena (root_in s.draft)
-
 -- document d names none
 abbrev pub unknown : State → ℕ → Bool
 unknown s d = nat_le (length s.texts) d
@@ -68,5 +65,5 @@ abbrev pub shown : {V R : Type 0} {kind : _} → View V R kind → Shelved R
 shown v = record { arena = seen v.rope; roots = v.roots.now; draft = v.draft; mark = v.mark; opened = v.opened }
 
 -- the list of strings that a view shows
-abbrev pub strings : {V R : Type 0} {kind : _} → View V R kind → State
-strings v = state_of (shown v)
+abbrev pub strings_shown : {V R : Type 0} {kind : _} → View V R kind → State
+strings_shown v = state_of (shown v)

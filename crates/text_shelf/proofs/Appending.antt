@@ -1,5 +1,5 @@
 -- A shelf with one document more.
-use Rattle.std.proofs.Common.{◌≡◌, ℕ, ◌+◌, ◌<◌, ◌≤◌, min, true, false, ltb, List, [], ◌∷◌, ◌++◌, map, length, get_or, take, None, Option, Ok, Result, sym, ap, ◌∙◌, append-nil, arith, length-append, Bor}
+use Rattle.std.proofs.Common.{◌≡◌, ℕ, ◌+◌, ◌<◌, ◌≤◌, min, true, false, ltb, List, [], ◌∷◌, ◌++◌, map, length, get_or, take, None, Option, Ok, sym, ap, ◌∙◌, append-nil, arith, length-append, Bor}
 use Rattle.std.proofs.lemmas.List.{length-map, length-take-le, map-append, get_or_append_left}
 use Rattle.std.specs.List.{between}
 use Rattle.std.proofs.lemmas.List.Edits.{length-between}
@@ -14,15 +14,14 @@ use Rattle.rope_keep.specs.Kept.{Grows}
 use Rattle.rope_cut.specs.Parts.{spliced}
 use Rattle.shelf_view.specs.Documents.{fine, all_fine, root_in}
 use Rattle.shelf_view.specs.State.{State, text_at}
-use Rattle.refusal.specs.declared.Refusal.{Refusal}
 use Rattle.refusal.proofs.Firsts.{first_none}
 use Rattle.rope.specs.Held.{held, Gains}
 use Rattle.text_shelf.specs.Shelves.{Parts, parts, Brought, brought, Measures, measures, strings}
-use Rattle.text_shelf.specs.Calls.{appended, accepted, answer, need, brings, DraftHeight, reason, reasons, numbers_spent}
-use Rattle.text_shelf.specs.Steps.{Changed}
+use Rattle.text_shelf.specs.Calls.{appended, accepted, answer, need, brings, DraftHeight, every_shelf, reasons, numbers_spent}
+use Rattle.text_shelf.specs.Rules.{reason}
+use Rattle.text_shelf.specs.Steps.{Does, Changed}
 use Rattle.text_shelf.specs.declared.call.Call.{Call}
 use Rattle.text_shelf.specs.declared.call.Call.TheVariants.{Put, Take, Cut, Splice}
-use Rattle.text_shelf.specs.declared.call.Answer.{Answer}
 use Rattle.text_shelf.specs.declared.call.Answer.TheVariants.{Made}
 use Rattle.rope.specs.declared.lent.Lent.{Lent}
 use Rattle.text_shelf.specs.declared.shelf.Shelf.{Shelf}
@@ -107,9 +106,7 @@ module _ {V R : Type 0} {kind : _} (s : Parts V R kind) (firm : Firm s) (store :
       same_brought = same_room places p.fills.room d s.opened;
       cost = g.cost;
       added_text = g.added;
-      added = g.keeps.added;
-      records = g.keeps.records;
-      places = p.fills;
+      spares = record { added = g.keeps.added; records = g.keeps.records; places = p.fills };
       heights = λ k h.
           ap (λ hs. get_or hs k 0) heights_after
           ∙ get_or_append_left (0 ∷ map (height_of (arena_of s.store)) (held s.places)) (height_of (arena_of store) root ∷ []) 0 k
@@ -142,38 +139,31 @@ append s store bs n g places root text p r is fits =
       draft = draft_height_stays s.store store g.keeps s.draft s.drafted;
     }
 
--- what an accepted call does to a shelf, which it leaves with these parts
-abbrev pub Does : {V R : Type 0} {kind : _} → Shelf V R kind → Call → Result Answer Refusal → Parts V R kind → Type 0
-Does s call a t =
-    (a ≡ Ok (answer s.mark (strings (parts s)) call))
-    × (strings t ≡ accepted s.store.build.now call (strings (parts s)))
-    × (Changed (parts s) t (brings call) (need (measures (parts s)) call) × DraftHeight call (measures (parts s)).draft (measures t).draft)
-
 -- an accepted call that appends a document
 pub appended_does : {V R : Type 0} {kind : _} (s : Shelf V R kind) {t : Parts V R kind} (call : Call) (k : ℕ) (text : List ℕ)
     → k ≡ s.places.used + 1 → answer s.mark (strings (parts s)) call ≡ Made (length (strings (parts s)).texts)
     → accepted s.store.build.now call (strings (parts s)) ≡ appended (strings (parts s)) text (length (brings call))
     → ((h j : ℕ) → j ≡ h → DraftHeight call h j)
-    → Appends (parts s) t text (brings call) (need (measures (parts s)) call) → Does s call (Ok (Made k)) t
+    → Appends (parts s) t text (brings call) (need (measures (parts s)) call) → Does every_shelf s call (Ok (Made k)) t
 appended_does s call k text n answers makes leaves a =
     (ap Ok (ap Made (n ∙ sym (count_texts (parts s))) ∙ sym answers), a.strings_are ∙ sym makes, (a.changed, leaves _ _ a.draft))
 
 module _ (b : Brought) (t : Measures) (s : State) where
-  pub put_fits : (text : Bor (List ℕ)) → reason b t s (Put text) ≡ None → Fits b s text.now
+  pub put_fits : (text : Bor (List ℕ)) → reason every_shelf b t s (Put text) ≡ None → Fits b s text.now
   put_fits text h = let p = first_none (reasons b t s (Put text)) h in record { short = omega (arith, ltb-false _ _ p.0); free = p.1.1.1.0 }
 
-  pub take_fits : (x y : ℕ) → reason b t s (Take x y) ≡ None → Fits b s (between x y b.build)
+  pub take_fits : (x y : ℕ) → reason every_shelf b t s (Take x y) ≡ None → Fits b s (between x y b.build)
   take_fits x y h =
       let p = first_none (reasons b t s (Take x y)) h in
       let q = or_parts (ltb y x) (ltb (length b.build) y) p.0 in
       record { short = omega (arith, ltb-false _ _ p.1.0, length-between b.build x y (ltb-false _ _ q.1)); free = p.1.1.1.0 }
 
-  pub cut_fits : (d x y : ℕ) → length (text_at s d) ≤ MOST_TEXT → reason b t s (Cut d x y) ≡ None → Fits b s (between x y (text_at s d))
+  pub cut_fits : (d x y : ℕ) → length (text_at s d) ≤ MOST_TEXT → reason every_shelf b t s (Cut d x y) ≡ None → Fits b s (between x y (text_at s d))
   cut_fits d x y short h =
       let p = first_none (reasons b t s (Cut d x y)) h in
       let q = or_parts (ltb y x) (ltb (length (text_at s d)) y) p.1.0 in
       let within : y ≤ length (text_at s d) = ltb-false _ _ q.1 in
       record { short = omega (arith, length-between (text_at s d) x y within); free = p.1.1.1.0 }
 
-  pub splice_fits : (d x y e : ℕ) → reason b t s (Splice d x y e) ≡ None → Fits b s (spliced (text_at s d) x y (text_at s e))
+  pub splice_fits : (d x y e : ℕ) → reason every_shelf b t s (Splice d x y e) ≡ None → Fits b s (spliced (text_at s d) x y (text_at s e))
   splice_fits d x y e h = let p = first_none (reasons b t s (Splice d x y e)) h in record { short = ltb-false _ _ p.1.1.0; free = p.1.1.1.1.0 }

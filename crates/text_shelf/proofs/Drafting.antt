@@ -19,14 +19,15 @@ use Rattle.shelf_view.specs.declared.draft_id.DraftId.{DraftId}
 use Rattle.refusal.proofs.Firsts.{first_none, first_not}
 use Rattle.rope.specs.Held.{held, Gains}
 use Rattle.text_shelf.specs.Shelves.{Parts, parts, shelved, brought, measures, strings}
-use Rattle.text_shelf.specs.Calls.{with_draft, accepted, need, DraftHeight, reason, reasons}
-use Rattle.text_shelf.specs.Steps.{Changed}
+use Rattle.text_shelf.specs.Calls.{with_draft, accepted, need, DraftHeight, every_shelf, reasons}
+use Rattle.text_shelf.specs.Steps.{reason_on}
+use Rattle.text_shelf.specs.Steps.{Does, Changed}
 use Rattle.text_shelf.specs.declared.call.Call.TheVariants.{Open, Add, Seal}
 use Rattle.text_shelf.specs.declared.call.Answer.TheVariants.{Made, Opened, Done}
 use Rattle.rope.specs.declared.lent.Lent.{Lent}
 use Rattle.text_shelf.specs.declared.shelf.Shelf.{Shelf}
-use Rattle.text_shelf.proofs.Staying.{fine_root, all_fine_stays, texts_stay, heights_stay}
-use Rattle.text_shelf.proofs.Appending.{Firm, firm_of, count_texts, takes_grows, same_room, Does, firm_after, strings_after, changed_after}
+use Rattle.text_shelf.proofs.Staying.{spares_none, fine_root, all_fine_stays, texts_stay, heights_stay}
+use Rattle.text_shelf.proofs.Appending.{Firm, firm_of, count_texts, takes_grows, same_room, firm_after, strings_after, changed_after}
 
 -- a shelf of which only the draft changes
 pub still : {V R : Type 0} {kind : _} (s : Parts V R kind) (d : Option Root) (o : ℕ)
@@ -35,18 +36,16 @@ still s d o = record {
   same_brought = refl;
   cost = omega arith;
   added_text = sym (append-nil (arena_of s.store).added);
-  added = fills_none s.store.added.used s.store.added.memory.now;
-  records = fills_none s.store.records.used s.store.records.memory.now;
-  places = fills_none s.places.used s.places.memory.now;
+  spares = let k = spares_none s in record { added = k.added; records = k.records; places = k.places };
   heights = λ k h. refl;
 }
 
 pub open_does : {V R : Type 0} {kind : _} (s : Shelf V R kind)
-    → Does s Open (Ok (Opened (record { mark = s.mark; count = s.opened + 1 }))) (record { store = s.store; places = s.places; draft = Some None; mark = s.mark; opened = s.opened + 1 })
+    → Does every_shelf s Open (Ok (Opened (record { mark = s.mark; count = s.opened + 1 }))) (record { store = s.store; places = s.places; draft = Some None; mark = s.mark; opened = s.opened + 1 })
 open_does s = (refl, refl, (still (parts s) (Some None) (s.opened + 1), refl))
 
 module _ {V R : Type 0} {kind : _} (m : Model V R) (s : Shelf V R kind) (d : DraftId) (text : Bor (List ℕ)) (p root : Root) (store : Store V R kind)
-    (none : reason (brought (parts s)) (measures (parts s)) (strings (parts s)) (Add d text) ≡ None) (drafts : Drafts m (shelved (parts s)) p)
+    (none : reason_on every_shelf s (Add d text) ≡ None) (drafts : Drafts m (shelved (parts s)) p)
     (g : Grows s.store store text.now (add_need (height_in s.store p) (length text.now)))
     (r : rooted store.records.used root ≡ true) (is : text_in store root ≡ text_in s.store p ++ text.now)
     (up : (height_in s.store p ≤ height_in store root) × (height_in store root ≤ max (height_in s.store p) 6 + 1)) where
@@ -68,7 +67,7 @@ module _ {V R : Type 0} {kind : _} (m : Model V R) (s : Shelf V R kind) (d : Dra
     drafted = fine_root store root r short_after;
   }
 
-  pub add_does : Does s (Add d text) (Ok Done) longer_draft
+  pub add_does : Does every_shelf s (Add d text) (Ok Done) longer_draft
   add_does =
       let texts = texts_stay s.store store g.keeps (held s.places) s.documents in
       let more : length (arena_of store).added ≡ length (arena_of s.store).added + length text.now = ap length g.added ∙ length-append (arena_of s.store).added text.now in
@@ -80,9 +79,7 @@ module _ {V R : Type 0} {kind : _} (m : Model V R) (s : Shelf V R kind) (d : Dra
         same_brought = same_room (parts s) (firm_of s) store text.now _ g s.places refl (Some root) s.opened;
         cost = omega (arith, g.cost, ap (λ h. add_need h (length text.now)) high);
         added_text = g.added;
-        added = g.keeps.added;
-        records = g.keeps.records;
-        places = fills_none s.places.used s.places.memory.now;
+        spares = record { added = g.keeps.added; records = g.keeps.records; places = fills_none s.places.used s.places.memory.now };
         heights = λ k h. ap (λ hs. get_or (0 ∷ hs) k 0) (heights_stay s.store store g.keeps (held s.places) s.documents);
       } in
       let higher : DraftHeight (Add d text) (measures (parts s)).draft (height_in store root) =
@@ -90,7 +87,7 @@ module _ {V R : Type 0} {kind : _} (m : Model V R) (s : Shelf V R kind) (d : Dra
       (refl, after, (changed, higher))
 
 module _ {V R : Type 0} {kind : _} (m : Model V R) (s : Shelf V R kind) (d : DraftId) (p : Root) (places : Lent Root MOST_PLACES)
-    (none : reason (brought (parts s)) (measures (parts s)) (strings (parts s)) (Seal d) ≡ None) (drafts : Drafts m (shelved (parts s)) p)
+    (none : reason_on every_shelf s (Seal d) ≡ None) (drafts : Drafts m (shelved (parts s)) p)
     (pushes : Gains s.places places (p ∷ [])) where
   abbrev pub sealed_shelf : Parts V R kind
   sealed_shelf = record { store = s.store; places = places; draft = None; mark = s.mark; opened = s.opened }
@@ -102,7 +99,7 @@ module _ {V R : Type 0} {kind : _} (m : Model V R) (s : Shelf V R kind) (d : Dra
   firm_sealed =
       firm_after (parts s) (firm_of s) s.store [] 0 grows places p (draft_text (strings (parts s))) pushes drafts.fine_root (sym drafts.text_is) None refl
 
-  pub seal_does : (k : ℕ) → k ≡ s.places.used + 1 → Does s (Seal d) (Ok (Made k)) sealed_shelf
+  pub seal_does : (k : ℕ) → k ≡ s.places.used + 1 → Does every_shelf s (Seal d) (Ok (Made k)) sealed_shelf
   seal_does k n =
       let after = strings_after (parts s) (firm_of s) s.store [] 0 grows places p (draft_text (strings (parts s))) pushes drafts.fine_root (sym drafts.text_is) in
       let changed = changed_after (parts s) (firm_of s) s.store [] 0 grows places p (draft_text (strings (parts s))) pushes drafts.fine_root (sym drafts.text_is) None in

@@ -21,7 +21,8 @@ use Rattle.shelf_view.proofs.Placing.{short_of, document_text, document_high}
 use Rattle.shelf_view.proofs.Reading.{part_is}
 use Rattle.text_shelf.specs.Shelves.{Parts, parts, shelved, brought, measures, strings}
 use Rattle.text_shelf.specs.Spans.{Spans}
-use Rattle.text_shelf.specs.Calls.{reason, need}
+use Rattle.text_shelf.specs.Calls.{every_shelf, need}
+use Rattle.text_shelf.specs.Steps.{reason_on}
 use Rattle.text_shelf.specs.declared.call.Call.TheVariants.{Cut, Splice}
 use Rattle.rope.specs.Held.{Gains}
 use Rattle.rope.specs.declared.lent.Lent.{Lent}
@@ -64,7 +65,7 @@ module _ {V R : Type 0} {kind : _} {m : Model V R} (v : Shelved R) (d : ℕ) {w 
 
 -- the part of a document is not too long, and there is a place for it
 pub part_fits : {V R : Type 0} {kind : _} {m : Model V R} (s : Shelf V R kind) (d x y : ℕ) (p : Span) → Spans m (shelved (parts s)) d x y p
-    → reason (brought (parts s)) (measures (parts s)) (strings (parts s)) (Cut d x y) ≡ None → Fits (brought (parts s)) (strings (parts s)) (between x y (text_at (strings (parts s)) d))
+    → reason_on every_shelf s (Cut d x y) ≡ None → Fits (brought (parts s)) (strings (parts s)) (between x y (text_at (strings (parts s)) d))
 part_fits s d x y p span none =
     let short : length (text_at (strings (parts s)) d) ≤ MOST_TEXT = omega (arith, ap length span.lies.text_is, short_of (arena_of s.store) p.root span.lies.fine_root) in
     cut_fits (brought (parts s)) (measures (parts s)) (strings (parts s)) d x y short none
@@ -74,7 +75,7 @@ module _ {V R : Type 0} {kind : _} (m : Model V R) (s : Shelf V R kind) (store :
   after = record { store = store; places = places; draft = s.draft; mark = s.mark; opened = s.opened }
 
   module _ (d x y : ℕ) (p : Span) (span : Spans m (shelved (parts s)) d x y p) where
-    pub cut_appends : reason (brought (parts s)) (measures (parts s)) (strings (parts s)) (Cut d x y) ≡ None
+    pub cut_appends : reason_on every_shelf s (Cut d x y) ≡ None
         → Makes s.store store root (between p.from p.to (text_in s.store p.root)) (edit_need (height_in s.store p.root)) (height_in s.store p.root)
         → Appends (parts s) after (between x y (text_at (strings (parts s)) d)) [] (need (measures (parts s)) (Cut d x y))
     cut_appends none made =
@@ -82,7 +83,7 @@ module _ {V R : Type 0} {kind : _} (m : Model V R) (s : Shelf V R kind) (store :
         append s store [] (need (measures (parts s)) (Cut d x y)) (takes_grows s.store store _ takes) places root (between x y (text_at (strings (parts s)) d)) pushes made.root
         (made.text_is ∙ (λ i. between (span.from_is i) (span.to_is i) (sym span.lies.text_is i))) (part_fits s d x y p span none)
 
-    pub splice_appends : (e : ℕ) (q : Root) → Lies m (shelved (parts s)) e q → reason (brought (parts s)) (measures (parts s)) (strings (parts s)) (Splice d x y e) ≡ None
+    pub splice_appends : (e : ℕ) (q : Root) → Lies m (shelved (parts s)) e q → reason_on every_shelf s (Splice d x y e) ≡ None
         → Makes s.store store root (take p.from (text_in s.store p.root) ++ (text_in s.store q ++ drop p.to (text_in s.store p.root)))
         (edit_need (higher s.store p.root q)) (higher s.store p.root q + 2)
         → Appends (parts s) after (spliced (text_at (strings (parts s)) d) x y (text_at (strings (parts s)) e)) [] (need (measures (parts s)) (Splice d x y e))

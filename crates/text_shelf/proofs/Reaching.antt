@@ -3,13 +3,13 @@ use Rattle.std.proofs.Common.{ℕ, ◌+◌, ◌<◌, List, [], ◌∷◌, ◌++�
 use Rattle.std.proofs.lemmas.List.{take_more, take_more_set, append_assoc}
 use Rattle.rope.specs.Arena.{Root}
 use Rattle.rope.specs.Lents.{Fills}
-use Rattle.rope.proofs.Keeping.{fills_none, fills_trans}
+use Rattle.rope.proofs.Keeping.{fills_trans}
 use Rattle.rope.specs.declared.record.Record.{Record}
 use Rattle.refusal.specs.declared.Refusal.{Refusal}
-use Rattle.text_shelf.specs.Rules.{Rules, refusal}
-use Rattle.text_shelf.specs.Shelves.{Parts, Fresh, parts, brought, measures, strings}
-use Rattle.text_shelf.specs.Steps.{Stepped, StepsBy}
-use Rattle.text_shelf.specs.Reaches.{Reached, fresh, called, Went, start, one_more, used_of, Untouched, More, Spares}
+use Rattle.text_shelf.specs.Rules.{Rules}
+use Rattle.text_shelf.specs.Shelves.{Parts, Fresh, parts}
+use Rattle.text_shelf.specs.Steps.{Spares, Stepped, StepsBy, reason_on}
+use Rattle.text_shelf.specs.Reaches.{Reached, fresh, called, Went, start, one_more, used_of, Untouched, More}
 use Rattle.text_shelf.specs.declared.call.Answer.{Answer}
 use Rattle.text_shelf.specs.declared.shelf.Shelf.{Shelf}
 
@@ -40,18 +40,11 @@ module _ {V R : Type 0} {kind : _} (s : Shelf V R kind) (build added : List ℕ)
         (subst (λ n. Fills n t.places.used s.places.memory.now t.places.memory.now) f.count p.places);
   }
 
-pub spares_none : {V R : Type 0} {kind : _} (s : Parts V R kind) → Spares s s
-spares_none s = record {
-  added = fills_none s.store.added.used s.store.added.memory.now;
-  records = fills_none s.store.records.used s.store.records.memory.now;
-  places = fills_none s.places.used s.places.memory.now;
-}
-
 module _ {C : Type 0} (r : Rules C) {V R : Type 0} {kind : _} (o : Parts V R kind) (s t : Shelf V R kind) (c : C) (a : Result Answer Refusal) where
   spares_by : (w : Option Refusal) → Stepped r w s c a t → Spares o (parts s) → Spares o (parts t)
   spares_by (Some e) step u = subst (λ z. Spares o (parts z)) (sym step.1) u
   spares_by None step u =
-      let k = step.2.0 in
+      let k = step.2.0.spares in
       record {
         added = fills_trans u.added k.added;
         records = fills_trans u.records k.records;
@@ -59,7 +52,7 @@ module _ {C : Type 0} (r : Rules C) {V R : Type 0} {kind : _} (o : Parts V R kin
       }
 
   pub spares_step : StepsBy r s c a t → Spares o (parts s) → Spares o (parts t)
-  spares_step step u = spares_by (refusal r (brought (parts s)) (measures (parts s)) (strings (parts s)) c) step u
+  spares_step step u = spares_by (reason_on r s c) step u
 
 -- the call at place i, whose answer is written there
 pub went_next : {C : Type 0} (r : Rules C) {V R : Type 0} {kind : _} (calls : List C) (xs : List (Result Answer Refusal)) (i : ℕ) (d : C) (a : Result Answer Refusal) (s t u : Shelf V R kind)

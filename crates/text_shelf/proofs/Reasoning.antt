@@ -11,7 +11,8 @@ use Rattle.refusal.specs.declared.Refusal.{Refusal}
 use Rattle.refusal.specs.declared.Refusal.TheVariants.{NoDocument, BadPart, TooLong}
 use Rattle.refusal.proofs.Firsts.{first_is, first_not, first_stays, first_then, first_or, passed}
 use Rattle.text_shelf.specs.Shelves.{Brought, Measures}
-use Rattle.text_shelf.specs.Calls.{reason, memory}
+use Rattle.text_shelf.specs.Calls.{every_shelf, memory}
+use Rattle.text_shelf.specs.Rules.{reason}
 use Rattle.text_shelf.specs.declared.call.Call.TheVariants.{Cut, Splice}
 
 module _ {R : Type 0} (b : Brought) (t : Measures) (v s : Shelved R) (same : v ≡ s) where
@@ -22,13 +23,13 @@ module _ {R : Type 0} (b : Brought) (t : Measures) (v s : Shelved R) (same : v �
   document_of d o h = ap (λ z. of_document (state_of z) d) (sym same) ∙ h
 
   module _ (d x y : ℕ) where
-    pub cut_refused : (e : Refusal) → of_part (state_of v) d x y ≡ Some e → reason b t (state_of s) (Cut d x y) ≡ Some e
+    pub cut_refused : (e : Refusal) → of_part (state_of v) d x y ≡ Some e → reason every_shelf b t (state_of s) (Cut d x y) ≡ Some e
     cut_refused e h =
         first_stays ((unknown (state_of s) d, NoDocument) ∷ (bad_part (text_at (state_of s) d) x y, BadPart) ∷ []) (memory (edit_need (get_or t.heights d 0)) b t (state_of s)) e
         (part_of d x y (Some e) h)
 
     pub cut_decided : (h : ℕ) (w : Option Refusal) → of_part (state_of v) d x y ≡ None → h ≡ get_or t.heights d 0 → first (memory (edit_need h) b t (state_of s)) ≡ w
-        → reason b t (state_of s) (Cut d x y) ≡ w
+        → reason every_shelf b t (state_of s) (Cut d x y) ≡ w
     cut_decided h w none high is =
         first_then ((unknown (state_of s) d, NoDocument) ∷ (bad_part (text_at (state_of s) d) x y, BadPart) ∷ []) (memory (edit_need (get_or t.heights d 0)) b t (state_of s))
         (part_of d x y None none) ∙ ap (λ k. first (memory (edit_need k) b t (state_of s))) (sym high) ∙ is
@@ -44,7 +45,7 @@ module _ {R : Type 0} (b : Brought) (t : Measures) (v s : Shelved R) (same : v �
       last : Reasons
       last = memory (edit_need (max (get_or t.heights d 0) (get_or t.heights e 0))) b t (state_of s)
 
-      apart : reason b t (state_of s) (Splice d x y e) ≡ first ((unknown (state_of s) d, NoDocument) ∷ (unknown (state_of s) e, NoDocument) ∷ (parted ++ (long ++ last)))
+      apart : reason every_shelf b t (state_of s) (Splice d x y e) ≡ first ((unknown (state_of s) d, NoDocument) ∷ (unknown (state_of s) e, NoDocument) ∷ (parted ++ (long ++ last)))
       unfolding parted long last
       apart = first_or (unknown (state_of s) d) (unknown (state_of s) e) NoDocument (parted ++ (long ++ last))
 
@@ -52,30 +53,30 @@ module _ {R : Type 0} (b : Brought) (t : Measures) (v s : Shelved R) (same : v �
       known k h = (passed (unknown (state_of s) k) NoDocument [] (document_of k None h)).0
 
       module _ (one : of_document (state_of v) d ≡ None) where
-        past_one : reason b t (state_of s) (Splice d x y e) ≡ first ((unknown (state_of s) e, NoDocument) ∷ (parted ++ (long ++ last)))
+        past_one : reason every_shelf b t (state_of s) (Splice d x y e) ≡ first ((unknown (state_of s) e, NoDocument) ∷ (parted ++ (long ++ last)))
         past_one = apart ∙ first_not NoDocument ((unknown (state_of s) e, NoDocument) ∷ (parted ++ (long ++ last))) (known d one)
 
         module _ (two : of_document (state_of v) e ≡ None) where
-          past_two : reason b t (state_of s) (Splice d x y e) ≡ first (parted ++ (long ++ last))
+          past_two : reason every_shelf b t (state_of s) (Splice d x y e) ≡ first (parted ++ (long ++ last))
           past_two = past_one ∙ first_not NoDocument (parted ++ (long ++ last)) (known e two)
 
           part_alone : (o : Option Refusal) → of_part (state_of v) d x y ≡ o → first parted ≡ o
           unfolding parted
           part_alone o h = sym (first_not NoDocument ((bad_part (text_at (state_of s) d) x y, BadPart) ∷ []) (known d one)) ∙ part_of d x y o h
 
-          pub splice_part : (f : Refusal) → of_part (state_of v) d x y ≡ Some f → reason b t (state_of s) (Splice d x y e) ≡ Some f
+          pub splice_part : (f : Refusal) → of_part (state_of v) d x y ≡ Some f → reason every_shelf b t (state_of s) (Splice d x y e) ≡ Some f
           splice_part f h = past_two ∙ first_stays parted (long ++ last) f (part_alone (Some f) h)
 
           module _ (part : of_part (state_of v) d x y ≡ None) (n : ℕ) (is : n ≡ length (spliced (text_at (state_of s) d) x y (text_at (state_of s) e))) where
-            past_part : reason b t (state_of s) (Splice d x y e) ≡ first (long ++ last)
+            past_part : reason every_shelf b t (state_of s) (Splice d x y e) ≡ first (long ++ last)
             past_part = past_two ∙ first_then parted (long ++ last) (part_alone None part)
 
-            pub splice_long : MOST_TEXT < n → reason b t (state_of s) (Splice d x y e) ≡ Some TooLong
+            pub splice_long : MOST_TEXT < n → reason every_shelf b t (state_of s) (Splice d x y e) ≡ Some TooLong
             unfolding long
             splice_long h = past_part ∙ first_is TooLong last (ap (ltb MOST_TEXT) (sym is) ∙ lt-ltb _ _ h)
 
             pub splice_decided : n ≤ MOST_TEXT → (h j k : ℕ) (w : Option Refusal) → h ≡ max j k → j ≡ get_or t.heights d 0 → k ≡ get_or t.heights e 0
-                → first (memory (edit_need h) b t (state_of s)) ≡ w → reason b t (state_of s) (Splice d x y e) ≡ w
+                → first (memory (edit_need h) b t (state_of s)) ≡ w → reason every_shelf b t (state_of s) (Splice d x y e) ≡ w
             unfolding long last
             splice_decided short h j k w high left right decided =
                 past_part ∙ first_not TooLong last (ap (ltb MOST_TEXT) (sym is) ∙ le-ltb _ _ short)

@@ -10,6 +10,9 @@ use Rattle.rope.specs.declared.store.Store.{Store}
 use Rattle.rope.proofs.Keeping.{used_length}
 use Rattle.rope_cut.proofs.Roots.{Stays, root_stays}
 use Rattle.shelf_view.specs.Documents.{fine, all_fine, root_in}
+use Rattle.text_shelf.specs.Shelves.{Parts}
+use Rattle.text_shelf.specs.Steps.{Spares}
+use Rattle.rope.proofs.Keeping.{fills_none}
 
 -- a root of a store that is one of its used records
 pub fine_root : {V R : Type 0} {kind : _} (s : Store V R kind) → (p : Root) → rooted s.records.used p ≡ true → length (text_of (arena_of s) p) ≤ MOST_TEXT → fine (arena_of s) p ≡ true
@@ -56,3 +59,11 @@ module _ {V R : Type 0} {kind : _} (s t : Store V R kind) (k : Keeps s t) where
 pub all_fine_push : {V R : Type 0} {kind : _} (s : Store V R kind) (ps : List Root) (p : Root) → all_fine (arena_of s) ps ≡ true → fine (arena_of s) p ≡ true → all_fine (arena_of s) (ps ++ (p ∷ [])) ≡ true
 all_fine_push s [] p f g = and_from _ _ g refl
 all_fine_push s (q ∷ ps) p f g = let h = and_parts (fine (arena_of s) q) (all_fine (arena_of s) ps) f in and_from _ _ h.0 (all_fine_push s ps p h.1 g)
+
+-- nothing is used where nothing is done
+pub spares_none : {V R : Type 0} {kind : _} (s : Parts V R kind) → Spares s s
+spares_none s = record {
+  added = fills_none s.store.added.used s.store.added.memory.now;
+  records = fills_none s.store.records.used s.store.records.memory.now;
+  places = fills_none s.places.used s.places.memory.now;
+}

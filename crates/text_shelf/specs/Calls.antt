@@ -8,10 +8,9 @@ use Rattle.refusal.specs.declared.limits.TheConstants.{MOST_BROUGHT, MOST_DRAFTS
 use Rattle.refusal.specs.Refusals.{Reasons}
 use Rattle.rope_read.specs.Texts.{bad_part}
 use Rattle.shelf_view.specs.State.{State, unknown, text_at, strange, draft_text}
-use Rattle.refusal.specs.declared.Refusal.{Refusal}
 use Rattle.refusal.specs.declared.Refusal.TheVariants.{StrangeDraft, DraftOpen, NoDocument, BadPart, TooLong, TextFull, RecordsShort, NumbersSpent}
 use Rattle.text_shelf.specs.Shelves.{Brought, Measures}
-use Rattle.text_shelf.specs.Rules.{Rules, refusal}
+use Rattle.text_shelf.specs.Rules.{Rules}
 use Rattle.text_shelf.specs.declared.call.Call.{Call}
 use Rattle.text_shelf.specs.declared.call.Call.TheVariants.{Put, Take, Cut, Splice, Open, Add, Seal, GiveUp}
 use Rattle.text_shelf.specs.declared.call.Answer.{Answer}
@@ -145,7 +144,3 @@ reasons b t s (GiveUp d) = (strange s b.mark d, StrangeDraft) ∷ []
 -- the rules of the calls of every shelf
 abbrev pub every_shelf : Rules Call
 every_shelf = record { reasons = reasons; accepted = accepted; answer = answer; need = need; brings = brings; draft_height = DraftHeight }
-
--- the refusal that a call answers, or none
-abbrev pub reason : Brought → Measures → State → Call → Option Refusal
-reason b t s call = refusal every_shelf b t s call

@@ -9,7 +9,7 @@ use Rattle.refusal.specs.declared.Refusal.{Refusal}
 use Rattle.refusal.specs.declared.Refusal.TheVariants.{StrangeDraft}
 use Rattle.text_shelf.specs.Rules.{Rules}
 use Rattle.text_shelf.specs.Shelves.{Parts, Brought, Fresh, parts}
-use Rattle.text_shelf.specs.Steps.{StepsBy}
+use Rattle.text_shelf.specs.Steps.{StepsBy, Spares}
 use Rattle.text_shelf.specs.declared.call.Answer.{Answer}
 use Rattle.text_shelf.specs.declared.draft.Draft.{Draft}
 use Rattle.text_shelf.specs.declared.replay.Outcome.{Outcome}
@@ -50,12 +50,6 @@ pub record Untouched {V R : Type 0} {kind : _} (s : Parts V R kind) (added : Lis
   pub added_memory : Fills 0 s.store.added.used added s.store.added.memory.now
   pub records_memory : Fills 0 s.store.records.used records s.store.records.memory.now
   pub places_memory : Fills 0 s.places.used places s.places.memory.now
-
--- from s to t: what was used stays, and what is not used now is as it was
-pub record Spares {V R : Type 0} {kind : _} (s t : Parts V R kind) : Type 0 where
-  pub added : Fills s.store.added.used t.store.added.used s.store.added.memory.now t.store.added.memory.now
-  pub records : Fills s.store.records.used t.store.records.used s.store.records.memory.now t.store.records.memory.now
-  pub places : Fills s.places.used t.places.used s.places.memory.now t.places.memory.now
 
 -- the token of the draft that is open on a shelf, or none
 abbrev pub token : {V R : Type 0} {kind : _} → Shelf V R kind → Option Draft

@@ -18,9 +18,9 @@ pub record Rules (C : Type 0) : Type 1 where
   -- how high the open draft is told before it and after it
   pub draft_height : C → ℕ → ℕ → Type 0
 
--- the refusal that a call answers, or none
-abbrev pub refusal : {C : Type 0} → Rules C → Brought → Measures → State → C → Option Refusal
-refusal r b t s call = first (r.reasons b t s call)
+-- the first of them that holds, which is the refusal that the call answers; or none
+abbrev pub reason : {C : Type 0} → Rules C → Brought → Measures → State → C → Option Refusal
+reason r b t s call = first (r.reasons b t s call)
 
 -- one step of the list of strings: a refused call leaves it as it is
 abbrev pub next : {C : Type 0} → Rules C → List ℕ → C → Bool → State → State

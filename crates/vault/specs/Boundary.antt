@@ -29,11 +29,11 @@ run_numbered (Ok r) = record { refusal = 0; len = r.len; next = r.next }
 run_numbered (Err e) = record { refusal = number_of e; len = 0; next = 0 }
 
 -- P holds of what is told in numbers
-abbrev pub Tells : (Result ℕ Refusal → Type 0) → VaultAnswer → Type 0
-Tells P a = (r : Result ℕ Refusal) × (P r × (a ≡ numbered r))
+abbrev pub Crosses : (Result ℕ Refusal → Type 0) → VaultAnswer → Type 0
+Crosses P a = (r : Result ℕ Refusal) × (P r × (a ≡ numbered r))
 
-abbrev pub TellsRun : (Result Answered Refusal → Type 0) → VaultRun → Type 0
-TellsRun P a = (r : Result Answered Refusal) × (P r × (a ≡ run_numbered r))
+abbrev pub RunCrosses : (Result Answered Refusal → Type 0) → VaultRun → Type 0
+RunCrosses P a = (r : Result Answered Refusal) × (P r × (a ≡ run_numbered r))
 
 -- REFUSALS
 

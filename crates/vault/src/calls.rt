@@ -5,7 +5,7 @@ ghost use Rattle.zemor.specs.Written.{bytes_of};
 ghost use Rattle.refusal.specs.Writing.{Writes, of_room};
 ghost use Rattle.shelf_view.specs.Marked.{fingerprint as fingerprint_of, written, in_part, ReadsBack};
 ghost use Rattle.vault.specs.declared.calls.TheConstants.{MOST_SCRIPT, RECORDS, ADDED, PLACES};
-ghost use Rattle.vault.specs.Boundary.{Tells, TellsRun, of_read_back, Runs};
+ghost use Rattle.vault.specs.Boundary.{Crosses, RunCrosses, of_read_back, Runs};
 
 use crate::answer::{VaultAnswer, VaultRun};
 use monoid::Monoid;
@@ -42,7 +42,7 @@ pub fn limits_stand()
 /// exactly where they do not fit. Takes time in the length of the text.
 #[unsafe(no_mangle)]
 pub extern "C" fn vault_fingerprint_bytes(text: &[u8], out: &mut [u8]) -> VaultAnswer
-    ensures { Tells (Writes (of_room 16 (length out.old)) (bytes_of (row (fingerprint_of text.now))) out.old out.new) result }
+    ensures { Crosses (Writes (of_room 16 (length out.old)) (bytes_of (row (fingerprint_of text.now))) out.old out.new) result }
 {
     VaultAnswer::from(write_start(&fingerprint(text).to_bytes(), out))
 }
@@ -51,7 +51,7 @@ pub extern "C" fn vault_fingerprint_bytes(text: &[u8], out: &mut [u8]) -> VaultA
 /// exactly where they do not fit. Takes time in the length of the text.
 #[unsafe(no_mangle)]
 pub extern "C" fn vault_fingerprint_digits(text: &[u8], out: &mut [u8]) -> VaultAnswer
-    ensures { Tells (Writes (of_room 32 (length out.old)) (written (fingerprint_of text.now)) out.old out.new) result }
+    ensures { Crosses (Writes (of_room 32 (length out.old)) (written (fingerprint_of text.now)) out.old out.new) result }
 {
     VaultAnswer::from(write_start(&fingerprint(text).to_hex(), out))
 }
@@ -68,7 +68,7 @@ pub extern "C" fn vault_read_back(
     digits: &[u8],
     out: &mut [u8],
 ) -> VaultAnswer
-    ensures { Tells (ReadsBack (of_read_back text.now from to (length out.old)) (in_part text.now from to) digits.now out.old out.new) result }
+    ensures { Crosses (ReadsBack (of_read_back text.now from to (length out.old)) (in_part text.now from to) digits.now out.old out.new) result }
 {
     VaultAnswer::from(read_back(text, from, to, digits, out))
 }
@@ -78,7 +78,7 @@ pub extern "C" fn vault_read_back(
 /// shelf's memory and of the script's commands.
 #[unsafe(no_mangle)]
 pub extern "C" fn vault_run_script(script: &[u8], out: &mut [u8]) -> VaultRun
-    ensures { TellsRun (Runs script.now out.old out.new) result }
+    ensures { RunCrosses (Runs script.now out.old out.new) result }
 {
     VaultRun::from(run_script(script, out))
 }

@@ -2,7 +2,7 @@
 ghost use Rattle.std.specs.Prelude.{◌≡◌, length};
 ghost use Rattle.refusal.specs.Refusals.{Answers};
 ghost use Rattle.rope_read.specs.Texts.{bytes_in};
-ghost use Rattle.shelf_view.specs.State.{shown, strings, text_at};
+ghost use Rattle.shelf_view.specs.State.{shown, strings_shown, text_at};
 ghost use Rattle.shelf_view.specs.Questions.{of_copy, of_same};
 ghost use Rattle.shelf_view.specs.Marked.{Compares, ComparesIn, in_part, ReadsBack};
 
@@ -32,7 +32,7 @@ impl<'v> View<'v, Marked> {
     /// Refused with NO DOCUMENT for either number, and then with BAD PART for either part, also where its end fits no number.
     /// Takes time in the heights of the documents.
     pub fn same(&self, d: u32, a: usize, e: u32, b: usize, n: usize) -> Result<Sameness, Refusal>
-        ensures { Answers (of_same (strings self.now) d a e b n) (ComparesIn (strings self.now) d a e b n) result }
+        ensures { Answers (of_same (strings_shown self.now) d a e b n) (ComparesIn (strings_shown self.now) d a e b n) result }
     {
         let one = self.document(d)?;
         let other = self.document(e)?;
@@ -54,7 +54,7 @@ impl<'v> View<'v, Marked> {
         fingerprint: &[u8],
         out: &mut [u8],
     ) -> Result<usize, Refusal>
-        ensures { ReadsBack (of_copy (strings self.now) d a b 5 (length out.old)) (in_part (text_at (strings self.now) d) a b) fingerprint.now out.old out.new result }
+        ensures { ReadsBack (of_copy (strings_shown self.now) d a b 5 (length out.old)) (in_part (text_at (strings_shown self.now) d) a b) fingerprint.now out.old out.new result }
     {
         let (front, back) = self.document(d)?.text().around(a, b)?;
         read_between(

@@ -8,7 +8,9 @@ ghost use Rattle.rope_keep.specs.Kept;
 ghost use Rattle.text_shelf.specs.Shelves.{parts, shelved};
 ghost use Rattle.text_shelf.specs.Spans.{Spans, SpliceSpans};
 ghost use Rattle.text_shelf.specs.Calls.{bytes, records, place, memory, longer};
-ghost use Rattle.text_shelf.specs.Whys.{why, why_call};
+ghost use Rattle.text_shelf.specs.Whys.{why};
+ghost use Rattle.text_shelf.specs.Steps.{reason_on};
+ghost use Rattle.text_shelf.specs.Calls.{every_shelf};
 ghost use Rattle.text_shelf.specs.declared.call.Call.TheVariants.{Put, Take, Cut, Splice, Add, Seal, GiveUp};
 
 use super::Shelf;
@@ -81,7 +83,7 @@ impl<'b, 'a, M: Monoid> Shelf<'b, 'a, M> {
     }
 
     pub(super) fn check_put(&self, text: &[u8]) -> Result<(), Refusal>
-        ensures { Answers (why_call self.now (Put text.entry)) (λ x. ⊤) result }
+        ensures { Answers (reason_on every_shelf self.now (Put text.entry)) (λ x. ⊤) result }
     {
         let n = text.len();
         if n > MOST_BROUGHT {
@@ -92,7 +94,7 @@ impl<'b, 'a, M: Monoid> Shelf<'b, 'a, M> {
     }
 
     pub(super) fn check_take(&self, from: usize, to: usize) -> Result<(), Refusal>
-        ensures { Answers (why_call self.now (Take from to)) (λ x. ⊤) result }
+        ensures { Answers (reason_on every_shelf self.now (Take from to)) (λ x. ⊤) result }
     {
         if from > to || to > self.store.build_len() {
             return Err(Refusal::BadPart);
@@ -106,7 +108,7 @@ impl<'b, 'a, M: Monoid> Shelf<'b, 'a, M> {
 
     /// The part to cut, or why there is none.
     pub(super) fn cut_part(&self, d: u32, from: usize, to: usize) -> Result<Span, Refusal>
-        ensures { Answers (why_call self.now (Cut d from to)) (Spans M.Monoid.model (shelved (parts self.now)) d from to) result }
+        ensures { Answers (reason_on every_shelf self.now (Cut d from to)) (Spans M.Monoid.model (shelved (parts self.now)) d from to) result }
     {
         let whole = self.view().document(d)?;
         let part = whole.text().part(from, to)?;
@@ -122,7 +124,7 @@ impl<'b, 'a, M: Monoid> Shelf<'b, 'a, M> {
         to: usize,
         other: u32,
     ) -> Result<(Span, Root), Refusal>
-        ensures { Answers (why_call self.now (Splice d from to other)) (SpliceSpans M.Monoid.model (shelved (parts self.now)) d from to other) result }
+        ensures { Answers (reason_on every_shelf self.now (Splice d from to other)) (SpliceSpans M.Monoid.model (shelved (parts self.now)) d from to other) result }
     {
         let view = self.view();
         let whole = view.document(d)?;
@@ -137,7 +139,7 @@ impl<'b, 'a, M: Monoid> Shelf<'b, 'a, M> {
 
     /// The root of the draft to lengthen by `text`, or why there is none.
     pub(super) fn draft_to_add(&self, id: DraftId, text: &[u8]) -> Result<Root, Refusal>
-        ensures { Answers (why_call self.now (Add id text.entry)) (Drafts M.Monoid.model (shelved (parts self.now))) result }
+        ensures { Answers (reason_on every_shelf self.now (Add id text.entry)) (Drafts M.Monoid.model (shelved (parts self.now))) result }
     {
         let whole = self.view().draft(id)?;
         self.memory_for_more(text.len(), whole.len(), whole.height())?;
@@ -158,7 +160,7 @@ impl<'b, 'a, M: Monoid> Shelf<'b, 'a, M> {
 
     /// The root of the draft to seal, or why there is none.
     pub(super) fn draft_to_seal(&self, id: DraftId) -> Result<Root, Refusal>
-        ensures { Answers (why_call self.now (Seal id)) (Drafts M.Monoid.model (shelved (parts self.now))) result }
+        ensures { Answers (reason_on every_shelf self.now (Seal id)) (Drafts M.Monoid.model (shelved (parts self.now))) result }
     {
         let root = self.draft_to_end(id)?;
         self.place_for_one()?;
@@ -167,7 +169,7 @@ impl<'b, 'a, M: Monoid> Shelf<'b, 'a, M> {
 
     /// The root of the draft to end, or why there is none.
     pub(super) fn draft_to_end(&self, id: DraftId) -> Result<Root, Refusal>
-        ensures { Answers (why_call self.now (GiveUp id)) (Drafts M.Monoid.model (shelved (parts self.now))) result }
+        ensures { Answers (reason_on every_shelf self.now (GiveUp id)) (Drafts M.Monoid.model (shelved (parts self.now))) result }
     {
         Ok(self.view().draft(id)?.root())
     }

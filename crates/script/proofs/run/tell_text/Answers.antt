@@ -1,7 +1,7 @@
 use Rattle.std.proofs.Common.{◌∷◌, [], ◌++◌, length, decimal, Ok, sym, ap, ◌∙◌, subst, arith}
 use Rattle.rope_read.specs.Texts.{bytes_in}
 use Rattle.shelf_view.specs.State.{state_of}
-use Rattle.script.specs.Answers.{WritesSaid, text_of}
+use Rattle.script.specs.Answers.{WritesSaid, said_to_text}
 use Rattle.script.proofs.Telling.{text_told}
 use Rattle.script.proofs.Writing.{closed}
 use Rattle.script.proofs.run.tell_text.Goals as goal
@@ -18,5 +18,5 @@ returns c =
     let long = c.len-len.ensures ∙ ap length (sym c.text.ensures.value) in
     let body = c.append_text-at.ensures.after out head c.begin-at.ensures.after in
     let whole = closed text out new len n long (c.append.ensures.after out (head ++ text) body) in
-    subst (λ z. WritesSaid (text_of (state_of z) c.args.d) out (Ok n) new) c.view.ensures
+    subst (λ z. WritesSaid (said_to_text (state_of z) c.args.d) out (Ok n) new) c.view.ensures
     (text_told h.0 h.1 text out new n c.text.ensures.value (omega (arith, long, c.if-len-gt-MOST_TOLD.false)) whole)

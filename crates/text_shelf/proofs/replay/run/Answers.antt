@@ -4,7 +4,8 @@ use Rattle.text_shelf.specs.Calls.{every_shelf}
 use Rattle.text_shelf.specs.Shelves.{parts}
 use Rattle.text_shelf.specs.Reaches.{Went, start}
 use Rattle.text_shelf.specs.declared.call.Call.TheVariants.{Put}
-use Rattle.text_shelf.proofs.Reaching.{more, went_next, spares_none, spares_step}
+use Rattle.text_shelf.proofs.Reaching.{more, went_next, spares_step}
+use Rattle.text_shelf.proofs.Staying.{spares_none}
 use Rattle.text_shelf.proofs.replay.run.Goals as goal
 
 pub loop-i-init : goal.loop-i-init

@@ -1,7 +1,8 @@
 use Rattle.std.proofs.Common.{◌≡◌, take, drop}
 use Rattle.text_shelf.specs.Calls.{every_shelf}
 use Rattle.text_shelf.specs.Shelves.{parts}
-use Rattle.text_shelf.specs.Reaches.{Went, Spares}
+use Rattle.text_shelf.specs.Reaches.{Went}
+use Rattle.text_shelf.specs.Steps.{Spares}
 use Rattle.text_shelf.proofs.replay.run.Given as goal
 
 abbrev pub invariant-loop-i : goal.invariant-loop-i

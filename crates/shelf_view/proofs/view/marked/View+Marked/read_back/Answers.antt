@@ -3,7 +3,7 @@ use Rattle.std.proofs.lemmas.Result.{err_from_is_err_and}
 use Rattle.refusal.specs.Writing.{of_room}
 use Rattle.std.proofs.lemmas.Slice.{between_from_start, between_to_end}
 use Rattle.rope_read.specs.Texts.{bad_part, bytes_in}
-use Rattle.shelf_view.specs.State.{shown, strings, text_at, unknown}
+use Rattle.shelf_view.specs.State.{shown, strings_shown, text_at, unknown}
 use Rattle.shelf_view.specs.Marked.{in_part, earlier, ReadsBack}
 use Rattle.refusal.specs.declared.Refusal.TheVariants.{NoDocument, BadPart, SmallBuffer}
 use Rattle.refusal.proofs.Firsts.{first_stays, first_then}
@@ -13,14 +13,14 @@ use Rattle.shelf_view.proofs.view.marked.View+Marked.read_back.Goals as goal
 
 pub returns-in_err-document : goal.returns-in_err-document
 returns-in_err-document c =
-    let s = strings c.args.self.now in
+    let s = strings_shown c.args.self.now in
     let rest = (bad_part (text_at s c.args.d) c.args.a c.args.b, BadPart) ∷ (nat_lt (length c.args.out.now) 5, SmallBuffer) ∷ [] in
     let p = err_from_is_err_and c.from_residual.result c.from_residual.ensures.1 in
     rw (p.1, p.2) (earlier (first_stays ((unknown s c.args.d, NoDocument) ∷ []) rest _ c.in_err-document.ensures), refl)
 
 pub returns-in_err-front : goal.returns-in_err-front
 returns-in_err-front c =
-    let s = strings c.args.self.now in
+    let s = strings_shown c.args.self.now in
     let text = c.text.ensures.value ∙ document_text c.in_ok-document.ensures.1 in
     let part = (unknown s c.args.d, NoDocument) ∷ (bad_part (text_at s c.args.d) c.args.a c.args.b, BadPart) ∷ [] in
     let p = err_from_is_err_and c.from_residual-in_err-front.result c.from_residual-in_err-front.ensures.1 in
@@ -32,7 +32,7 @@ returns-in_err-front c =
 
 pub returns : goal.returns
 returns c =
-    let s = strings c.args.self.now in
+    let s = strings_shown c.args.self.now in
     let old = c.args.out.now in
     let digits = c.args.fingerprint.now in
     let part = (unknown s c.args.d, NoDocument) ∷ (bad_part (text_at s c.args.d) c.args.a c.args.b, BadPart) ∷ [] in

@@ -1,7 +1,7 @@
 use Rattle.std.proofs.Common.{◌≡◌, ◌+◌, None, ap, ◌∙◌, subst, arith}
 use Rattle.std.specs.List.{between}
 use Rattle.rope_read.specs.Texts.{bytes_in, of_bounds}
-use Rattle.shelf_view.specs.State.{strings, text_at}
+use Rattle.shelf_view.specs.State.{strings_shown, text_at}
 use Rattle.shelf_view.proofs.Placing.{document_text}
 use Rattle.shelf_view.proofs.Marking.{stretch_long, same_none, compared}
 use Rattle.shelf_view.proofs.view.marked.View+Marked.same.Goals as goal
@@ -14,7 +14,7 @@ compare-requires c =
 
 pub returns : goal.returns
 returns c =
-    let s = strings c.args.self.now in
+    let s = strings_shown c.args.self.now in
     let n = c.args.n in
     let x = c.in_ok-x.ensures in
     let y = c.in_ok-y.ensures in
