@@ -10,7 +10,6 @@ use text_shelf::named::MarkedShelf;
 use text_shelf::shelf::Shelf;
 
 // A read-back, a copy or a byte of a document.
-// An enum, for each question has its own arguments: a table of closures would be no plainer.
 #[derive(Clone, Copy)]
 enum Ask<'t> {
     Back(u32, usize, usize, &'t [u8]),

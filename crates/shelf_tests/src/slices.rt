@@ -12,8 +12,7 @@ use text_shelf::draft::Draft;
 use text_shelf::named::PlainShelf;
 use text_shelf::shelf::Shelf;
 
-// From a slice to a slice of it.
-// An enum, for what stands around a part is two slices, and a row goes on with one.
+// From a slice to a slice of it: a part, or one side of what stands around a part.
 #[derive(Clone, Copy)]
 enum Way {
     Part(usize, usize),
