@@ -6,7 +6,7 @@ use Rattle.rope.specs.declared.record.Record.{Record}
 use Rattle.shelf_view.specs.declared.draft_id.DraftId.{DraftId}
 use Rattle.refusal.specs.declared.Refusal.{Refusal}
 use Rattle.refusal.specs.declared.Refusal.TheVariants.{NoDocument}
-use Rattle.text_shelf.specs.Shelves.{Fresh, parts, brought, measures, strings}
+use Rattle.text_shelf.specs.Shelves.{Fresh, parts, strings}
 use Rattle.text_shelf.specs.Calls.{every_shelf}
 use Rattle.text_shelf.specs.Steps.{reason_on}
 use Rattle.text_shelf.specs.Reaches.{Reached, fresh, called, used_of}
