@@ -5,7 +5,7 @@ use Rattle.std.proofs.Math.Seq.{get_or-append_seam, take-length}
 use Rattle.std.proofs.lemmas.Slice.{between_from_start}
 use Rattle.std.proofs.lemmas.Bool.{ltb-false, or_parts}
 use Rattle.std.proofs.lemmas.List.{get_or_append_left, length-take, take_all}
-use Rattle.rope_cut.specs.Parts.{spliced}
+use Rattle.rope.specs.Edits.{spliced}
 use Rattle.refusal.specs.declared.limits.TheConstants.{MOST_BYTES, MOST_TEXT}
 use Rattle.refusal.proofs.Firsts.{first_none}
 use Rattle.shelf_view.specs.State.{text_at}

@@ -5,7 +5,7 @@ use Rattle.refusal.specs.Writing.{Stands}
 use Rattle.zemor.specs.Values.{row}
 use Rattle.zemor.specs.Written.{bytes_of}
 use Rattle.zemor.specs.declared.matrix.Sl2.{Sl2}
-use Rattle.rope_cut.specs.Parts.{spliced}
+use Rattle.rope.specs.Edits.{spliced}
 use Rattle.shelf_view.specs.State.{text_at}
 use Rattle.text_shelf.specs.Shelves.{parts, strings}
 use Rattle.text_shelf.specs.declared.shelf.Shelf.{Shelf}

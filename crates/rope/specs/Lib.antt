@@ -1,5 +1,6 @@
 pub mod Lents
 pub mod Tree
+pub mod Edits
 pub mod Arena
 pub mod Held
 pub mod Memory

@@ -10,7 +10,8 @@ use Rattle.rope.specs.Memory.{Keeps, Free, Takes}
 use Rattle.rope.specs.Arena.{Root}
 use Rattle.rope.specs.declared.store.Store.{Store}
 use Rattle.rope.proofs.Keeping.{keeps_tree, takes_none, takes_trans, takes_within, free_after}
-use Rattle.rope_cut.specs.Parts.{Rooted, Makes, Spliceable, spliced, text_in, height_in, higher, cut_cost, join_cost, splice_cost, edit_need}
+use Rattle.rope.specs.Edits.{spliced}
+use Rattle.rope_cut.specs.Parts.{Rooted, Makes, Spliceable, text_in, height_in, higher, cut_cost, join_cost, splice_cost, edit_need}
 
 -- a root stays one, with its text and its height
 pub record Stays {V R : Type 0} {kind : _} (s s' : Store V R kind) (p : Root) : Type 0 where

@@ -9,7 +9,8 @@ use Rattle.rope.specs.Memory.{arena_of, tree_of, Free}
 use Rattle.rope.specs.declared.store.Store.{Store}
 use Rattle.rope.proofs.Keeping.{takes_trans, takes_within, free_after}
 use Rattle.rope.proofs.Readings.{splits_size, splits_high}
-use Rattle.rope_cut.specs.Parts.{Rooted, Makes, Spliceable, spliced, text_in, height_in, higher, join_cost, splice_cost, edit_need}
+use Rattle.rope.specs.Edits.{spliced}
+use Rattle.rope_cut.specs.Parts.{Rooted, Makes, Spliceable, text_in, height_in, higher, join_cost, splice_cost, edit_need}
 use Rattle.rope_cut.proofs.Roots.{Stays, root_stays}
 
 -- the heights of a tree, of the child that changes, of the other child and of the text that is put in

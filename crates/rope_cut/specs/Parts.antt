@@ -1,5 +1,7 @@
 -- What the edits of a tree need and give.
 use Rattle.std.specs.Prelude.{◌≡◌, ℕ, ◌+◌, ◌-◌, ◌*◌, ◌^◌, ◌<◌, ◌≤◌, max, true, List, ◌++◌, length, take, drop}
+use Rattle.std.specs.List.{between}
+use Rattle.rope.specs.Edits.{spliced}
 use Rattle.rope.specs.Tree.{Tree, text, size, height}
 use Rattle.rope.specs.Arena.{text_of, height_of, rooted}
 use Rattle.rope.specs.Memory.{arena_of, tree_of, Free, Takes}
@@ -45,13 +47,26 @@ pub record Makes {V R : Type 0} {kind : _} (s s' : Store V R kind) (r : Root) (b
   pub text_is : text_in s' r ≡ bs
   pub low : height_in s' r ≤ h
 
+-- r is a root of the text bs, a front or a back of that at p, and no higher
+abbrev pub PartedRoot : {V R : Type 0} {kind : _} → Store V R kind → Store V R kind → Root → Root → List ℕ → Type 0
+PartedRoot s s' r p bs = Makes s s' r bs (cut_cost (height_in s p) (height_in s' r)) (height_in s p)
+
 -- the records that a join of two roots may take
 abbrev pub join_cost : {V R : Type 0} {kind : _} → Store V R kind → Root → Root → ℕ
 join_cost s p q = 3 * ((height_in s p - height_in s q) + (height_in s q - height_in s p) - 1) + 1
 
+-- r is a root of the text at p and then that at q
+pub record JoinedRoots {V R : Type 0} {kind : _} (s s' : Store V R kind) (r p q : Root) : Type 0 where
+  pub makes : Makes s s' r (text_in s p ++ text_in s q) (join_cost s p q) (higher s p q + 1)
+  pub least : higher s p q ≤ height_in s' r
+
 -- the need of an edit of texts that are at most h high
 abbrev pub edit_need : ℕ → ℕ
 edit_need h = 32 * (h + 1)
+
+-- r is a root of the part a to b of the text at p, and no higher
+abbrev pub Cut : {V R : Type 0} {kind : _} → Store V R kind → Store V R kind → Root → Root → ℕ → ℕ → Type 0
+Cut s s' r p a b = Makes s s' r (between a b (text_in s p)) (edit_need (height_in s p)) (height_in s p)
 
 -- the records that a splice of texts that are at most h high may take, where the text that it makes is k high
 abbrev pub splice_cost : ℕ → ℕ → ℕ
@@ -64,6 +79,6 @@ pub record Spliceable {V R : Type 0} {kind : _} (s : Store V R kind) (p : Root) 
   pub short : length (text_in s p) - (b - a) + length (text_in s q) < 2 ^ 32
   pub free : Free s (edit_need (higher s p q))
 
--- a splice: d up to a, then e, then d from b on
-abbrev pub spliced : List ℕ → ℕ → ℕ → List ℕ → List ℕ
-spliced d a b e = take a d ++ (e ++ drop b d)
+-- r is a root of the text at p with its part a to b replaced by that at q, for at most n records
+abbrev pub Spliced : {V R : Type 0} {kind : _} → Store V R kind → Store V R kind → Root → Root → ℕ → ℕ → Root → ℕ → Type 0
+Spliced s s' r p a b q n = Makes s s' r (spliced (text_in s p) a b (text_in s q)) n (higher s p q + 2)

@@ -3,10 +3,9 @@
 #![tactic(auto)]
 
 ghost use Rattle.std.specs.Prelude.{◌≡◌, ◌+◌, ◌-◌, ◌*◌, ◌^◌, ◌<◌, ◌≤◌, ◌++◌, length, take, drop};
-ghost use Rattle.std.specs.List.{between};
 ghost use Rattle.rope.specs.Tree.{text, size};
 ghost use Rattle.rope.specs.Memory.{Free, tree_of};
-ghost use Rattle.rope_cut.specs.Parts.{Partable, Parted, Rooted, Makes, Spliceable, spliced, cut_cost, join_cost, splice_cost, edit_need, text_in, height_in, higher};
+ghost use Rattle.rope_cut.specs.Parts.{Partable, Parted, PartedRoot, Rooted, JoinedRoots, Cut, Spliceable, Spliced, join_cost, splice_cost, edit_need, text_in, height_in, higher};
 
 use monoid::Monoid;
 use rope::record::{Piece, Root, Shape};
@@ -74,7 +73,7 @@ pub fn front<'b, 'a, M: Monoid>(store: &mut Store<'b, 'a, M>, root: Root, b: u32
     requires rooted { Rooted store.old root }
     requires within { b ≤ length (text_in store.old root) }
     requires free { Free store.old (4 * height_in store.old root + 1) }
-    ensures { Makes store.old store.new result (take b (text_in store.old root)) (cut_cost (height_in store.old root) (height_in store.new result)) (height_in store.old root) }
+    ensures { PartedRoot store.old store.new result root (take b (text_in store.old root)) }
 {
     if b == 0 {
         return None;
@@ -87,7 +86,7 @@ pub fn back<'b, 'a, M: Monoid>(store: &mut Store<'b, 'a, M>, root: Root, a: u32)
     requires rooted { Rooted store.old root }
     requires within { a ≤ length (text_in store.old root) }
     requires free { Free store.old (4 * height_in store.old root + 1) }
-    ensures { Makes store.old store.new result (drop a (text_in store.old root)) (cut_cost (height_in store.old root) (height_in store.new result)) (height_in store.old root) }
+    ensures { PartedRoot store.old store.new result root (drop a (text_in store.old root)) }
 {
     let i = root?;
     if a == store.record(i).length {
@@ -101,8 +100,7 @@ pub fn join_roots<'b, 'a, M: Monoid>(store: &mut Store<'b, 'a, M>, left: Root, r
     requires rooted { Rooted store.old left × Rooted store.old right }
     requires short { length (text_in store.old left) + length (text_in store.old right) < 2 ^ 32 }
     requires free { Free store.old (join_cost store.old left right) }
-    ensures makes { Makes store.old store.new result (text_in store.old left ++ text_in store.old right) (join_cost store.old left right) (higher store.old left right + 1) }
-    ensures least { higher store.old left right ≤ height_in store.new result }
+    ensures { JoinedRoots store.old store.new result left right }
 {
     match (left, right) {
         (Some(i), Some(j)) => Some(join(store, i, j)),
@@ -116,7 +114,7 @@ pub fn cut<'b, 'a, M: Monoid>(store: &mut Store<'b, 'a, M>, root: Root, a: u32, 
     requires rooted { Rooted store.old root }
     requires part { (a ≤ b) × (b ≤ length (text_in store.old root)) }
     requires free { Free store.old (edit_need (height_in store.old root)) }
-    ensures { Makes store.old store.new result (between a b (text_in store.old root)) (edit_need (height_in store.old root)) (height_in store.old root) }
+    ensures { Cut store.old store.new result root a b }
 {
     let before = front(store, root, b);
     back(store, before, a)
@@ -142,7 +140,7 @@ fn replace<'b, 'a, M: Monoid>(
     other: Root,
 ) -> Root
     requires { Spliceable store.old root a b other }
-    ensures { Makes store.old store.new result (spliced (text_in store.old root) a b (text_in store.old other)) (splice_cost (higher store.old root other) (height_in store.new result)) (higher store.old root other + 2) }
+    ensures { Spliced store.old store.new result root a b other (splice_cost (higher store.old root other) (height_in store.new result)) }
 {
     let before = front(store, root, a);
     let behind = back(store, root, b);
@@ -161,7 +159,7 @@ fn splice_at<'b, 'a, M: Monoid>(
     other: Root,
 ) -> Root
     requires { Spliceable store.old (Some i) a b other }
-    ensures { Makes store.old store.new result (spliced (text_in store.old (Some i)) a b (text_in store.old other)) (splice_cost (higher store.old (Some i) other) (height_in store.new result)) (higher store.old (Some i) other + 2) }
+    ensures { Spliced store.old store.new result (Some i) a b other (splice_cost (higher store.old (Some i) other) (height_in store.new result)) }
 {
     if let Shape::Inner { left, right } = store.record(i).shape {
         let least = root_height(store, other);
@@ -190,7 +188,7 @@ pub fn splice<'b, 'a, M: Monoid>(
     requires part { (a ≤ b) × (b ≤ length (text_in store.old root)) }
     requires short { length (text_in store.old root) - (b - a) + length (text_in store.old other) < 2 ^ 32 }
     requires free { Free store.old (edit_need (higher store.old root other)) }
-    ensures { Makes store.old store.new result (take a (text_in store.old root) ++ (text_in store.old other ++ drop b (text_in store.old root))) (edit_need (higher store.old root other)) (higher store.old root other + 2) }
+    ensures { Spliced store.old store.new result root a b other (edit_need (higher store.old root other)) }
 {
     match root {
         Some(i) => splice_at(store, i, a, b, other),

@@ -80,22 +80,26 @@ pub data Turn {V R : Type 0} {kind : _} (script : List ℕ) (i : ℕ) (s : Shelf
 -- turns of a script, one behind the other, with the answers of all
 pub data Turns {V R : Type 0} {kind : _} (script : List ℕ) (i : ℕ) (s : Shelf V R kind) : List ℕ → ℕ → Shelf V R kind → Type 0 where
   none : Turns script i s [] i s
-  more : {a before : List ℕ} {j k : ℕ} {t u : Shelf V R kind} → Turns script i s before j t → j < length script → Turn script j t a k u → Turns script i s (before ++ a) k u
+  more : {a before : List ℕ} {j k : ℕ} {t u : Shelf V R kind}
+      → Turns script i s before j t → j < length script → Turn script j t a k u → Turns script i s (before ++ a) k u
 
 -- what `run` does: one turn, whose answer lies at the buffer's start, with its length; what lies behind keeps its bytes.
 -- A buffer below MOST_ANSWER bytes is refused before all else, and then nothing is changed.
-abbrev pub Ran : {V R : Type 0} {kind : _} → List ℕ → ℕ → Shelf V R kind → List ℕ → Shelf V R kind → List ℕ → Result Answered Refusal → Type 0
+abbrev pub Ran : {V R : Type 0} {kind : _}
+    → List ℕ → ℕ → Shelf V R kind → List ℕ → Shelf V R kind → List ℕ → Result Answered Refusal → Type 0
 Ran script i s old t new (Ok r) = (MOST_ANSWER ≤ length old) × ((a : List ℕ) × (Turn script i s a r.next t × Stands a old r.len new))
 Ran script i s old t new (Err e) = (length old < MOST_ANSWER) × (e ≡ SmallBuffer) × (t ≡ s) × (new ≡ old)
 
 -- turns that each began with MOST_ANSWER bytes left of n: the last one did, and those before it had more. From the script's end
 -- or beyond there is the one that answers nothing.
 pub data TurnsIn {V R : Type 0} {kind : _} (n : ℕ) (script : List ℕ) (i : ℕ) (s : Shelf V R kind) : List ℕ → ℕ → Shelf V R kind → Type 0 where
-  last : {a before : List ℕ} {j k : ℕ} {t u : Shelf V R kind} → Turns script i s before j t → length before + MOST_ANSWER ≤ n → Turn script j t a k u → TurnsIn n script i s (before ++ a) k u
+  last : {a before : List ℕ} {j k : ℕ} {t u : Shelf V R kind}
+      → Turns script i s before j t → length before + MOST_ANSWER ≤ n → Turn script j t a k u → TurnsIn n script i s (before ++ a) k u
 
 -- what `run_into` does: turns up to the script's end, or until fewer than MOST_ANSWER bytes are left, and none beyond; all their
 -- answers stand at the buffer's start, with their length. It refuses as `run` does.
-abbrev pub RanInto : {V R : Type 0} {kind : _} → List ℕ → ℕ → Shelf V R kind → List ℕ → Shelf V R kind → List ℕ → Result Answered Refusal → Type 0
+abbrev pub RanInto : {V R : Type 0} {kind : _}
+    → List ℕ → ℕ → Shelf V R kind → List ℕ → Shelf V R kind → List ℕ → Result Answered Refusal → Type 0
 RanInto script i s old t new (Ok r) =
     (MOST_ANSWER ≤ length old) × ((r.next ≡ length script) ⊎ (length old < r.len + MOST_ANSWER))
     × ((all : List ℕ) × (TurnsIn (length old) script i s all r.next t × Stands all old r.len new))
@@ -103,10 +107,19 @@ RanInto script i s old t new (Err e) = (length old < MOST_ANSWER) × (e ≡ Smal
 
 -- turns up to one whose answer is not written whole: what is written is the answers before it, and a front of its own
 pub data BrokenOff {V R : Type 0} {kind : _} (script : List ℕ) (i : ℕ) (s : Shelf V R kind) : List ℕ → Shelf V R kind → Type 0 where
-  within : {a before : List ℕ} {j k n : ℕ} {t u : Shelf V R kind} → Turns script i s before j t → j < length script → Turn script j t a k u → n < length a → BrokenOff script i s (before ++ take n a) u
+  within : {a before : List ℕ} {j k n : ℕ} {t u : Shelf V R kind}
+      → Turns script i s before j t → j < length script → Turn script j t a k u → n < length a → BrokenOff script i s (before ++ take n a) u
+
+-- what `write_whole` does, for a writer that held the bytes `old` and holds the bytes `new`, where it tells them: all of
+-- `bytes` are written; with an error a front of them, and not all
+abbrev pub WroteWhole : {E : Type 0} → Option (List ℕ) → Option (List ℕ) → List ℕ → Result (Unit {0}) E → Type 0
+WroteWhole old new bytes (Ok u) = Appends old new bytes
+WroteWhole old new bytes (Err e) = (n : ℕ) × (n < length bytes) × Appends old new (take n bytes)
 
 -- what `run_all` does, for a writer that held the bytes `old` and holds the bytes `new`, where it tells them: turns up to
 -- the script's end, and all their answers are written; with an error, turns up to one whose answer is not written whole
-abbrev pub RanAll : {V R : Type 0} {kind : _} {E : Type 0} → List ℕ → ℕ → Shelf V R kind → Option (List ℕ) → Shelf V R kind → Option (List ℕ) → Result (Unit {0}) E → Type 0
-RanAll script i s old t new (Ok u) = (all : List ℕ) × ((k : ℕ) × (Turns script i s all k t × (length script ≤ k) × Appends old new all))
+abbrev pub RanAll : {V R : Type 0} {kind : _} {E : Type 0}
+    → List ℕ → ℕ → Shelf V R kind → Option (List ℕ) → Shelf V R kind → Option (List ℕ) → Result (Unit {0}) E → Type 0
+RanAll script i s old t new (Ok u) =
+    (all : List ℕ) × ((k : ℕ) × (Turns script i s all k t × (length script ≤ k) × Appends old new all))
 RanAll script i s old t new (Err e) = (written : List ℕ) × (BrokenOff script i s written t × Appends old new written)

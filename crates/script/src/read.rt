@@ -1,8 +1,8 @@
 //! Reading the command that stands at a place of a script.
 ghost use Rattle.std.specs.Prelude.{◌≡◌, MatchOption, ◌∷◌, []};
-ghost use Rattle.netstring.specs.Netstring.{NoNetstringAt};
 ghost use Rattle.script.specs.Commands.{ReadAt};
-ghost use Rattle.script.specs.Parsing.{TextAt, ArgumentsAt, NoNumbersAt, PartsAt, NoPartsAt, CommandInside};
+ghost use Rattle.script.specs.Parsing.{TextRead, NumbersRead, CommandRead, CommandInside};
+ghost use Rattle.std.specs.Option.{option_map};
 
 use crate::command::{Argument, Command, Word};
 use netstring::read::Netstring;
@@ -26,7 +26,7 @@ struct Arguments<'s> {
 impl<'s> Arguments<'s> {
     fn text(&mut self) -> Option<Argument<&'s [u8]>>
         ensures same { self.new.inside ≡ self.old.inside }
-        ensures value { MatchOption result (NoNetstringAt self.old.inside.now self.old.at) (λ a. TextAt self.old.inside.now self.old.at a.value.now a.at self.new.at) }
+        ensures value { TextRead self.old.inside.now self.old.at result self.new.at }
     {
         let Netstring { content, next } = netstring::read::read(self.inside, self.at).ok()?;
         self.at = next;
@@ -38,7 +38,7 @@ impl<'s> Arguments<'s> {
 
     fn number(&mut self) -> Option<Argument<u32>>
         ensures same { self.new.inside ≡ self.old.inside }
-        ensures value { MatchOption result (NoNumbersAt self.old.inside.now self.old.at 1) (λ a. ArgumentsAt self.old.inside.now self.old.at (a ∷ []) self.new.at) }
+        ensures value { NumbersRead self.old.inside.now self.old.at 1 (option_map (λ a. a ∷ []) result) self.new.at }
     {
         let Argument { value, at } = self.text()?;
         let value = netstring::read::number(value)? as u32;
@@ -48,7 +48,7 @@ impl<'s> Arguments<'s> {
     /// So many numbers, one behind the other.
     fn numbers<const N: usize>(&mut self) -> Option<[Argument<u32>; N]>
         ensures same { self.new.inside ≡ self.old.inside }
-        ensures value { MatchOption result (NoNumbersAt self.old.inside.now self.old.at N) (λ xs. ArgumentsAt self.old.inside.now self.old.at xs self.new.at) }
+        ensures value { NumbersRead self.old.inside.now self.old.at N result self.new.at }
     {
         let mut numbers = [Argument { value: 0, at: 0 }; N];
         for i in 0..N {
@@ -60,7 +60,7 @@ impl<'s> Arguments<'s> {
     /// A word, and the arguments that go with it.
     fn command(&mut self) -> Option<Command<'s>>
         ensures same { self.new.inside ≡ self.old.inside }
-        ensures value { MatchOption result (NoPartsAt self.old.inside.now self.old.at) (λ k. PartsAt self.old.inside.now self.old.at k self.new.at) }
+        ensures value { CommandRead self.old.inside.now self.old.at result self.new.at }
     {
         match Word::of(self.text()?.value)? {
             Word::Put => Some(Command::Put { text: self.text()? }),

@@ -3,6 +3,7 @@ ghost use Rattle.std.specs.Prelude.{◌≢◌, ◌<◌, ℕ, length, take, IfErr
 ghost use Rattle.std.specs.Io.{WritesAtMost};
 ghost use Rattle.std.specs.Io.KnownBytes.{Appends, WriteAppends};
 ghost use Rattle.std.specs.IoError.{error_kind};
+ghost use Rattle.script.specs.Answers.{WroteWhole};
 
 use std::io;
 use std::io::{ErrorKind, Write};
@@ -26,9 +27,7 @@ fn write_some<W: Write>(out: &mut W, bytes: &[u8]) -> io::Result<usize>
 /// Writes all of `bytes`. The `write_all` of std does not say what has been written where it fails; here it is a front of
 /// the bytes, and not all of them. A writer that takes no byte fails with `WriteZero`.
 pub(crate) fn write_whole<W: Write>(out: &mut W, bytes: &[u8]) -> io::Result<()>
-    ensures written { MatchResult result
-        (λ u. Appends (W.Write.contents out.old) (W.Write.contents out.new) bytes.now)
-        (λ e. (n : ℕ) × (n < length bytes.now) × Appends (W.Write.contents out.old) (W.Write.contents out.new) (take n bytes.now)) }
+    ensures written { WroteWhole (W.Write.contents out.old) (W.Write.contents out.new) bytes.now result }
     ensures retried { IfErr result (λ e. error_kind e ≢ ErrorKind.Interrupted) }
 {
     let mut at = 0;

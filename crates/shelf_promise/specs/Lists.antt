@@ -39,20 +39,21 @@ Goes r false c s t u = u ≡ t
 
 -- the call c, made where the list of strings is z and the shelf tells t: it is refused exactly where a numbered reason holds,
 -- with the first that does, and otherwise answers what the list of strings says
-pub record OneCall {C : Type 0} (r : Rules C) (b : Brought) (z : State) (t : Measures) (c : C) (a : Result Answer Refusal) (u : Measures) : Type 0 where
+pub record OneCall {C : Type 0} (r : Rules C) (b : Brought)
+    (z : State) (t : Measures) (c : C) (a : Result Answer Refusal) (u : Measures) : Type 0 where
   pub answer : a ≡ answered (reason r b t z c) (r.answer b.mark z c)
   pub goes : Goes r (is_ok a) c z t u
 
 -- so it is of each call of the list by which a shelf was reached, by the very shelves that it went through
-abbrev pub Each : {C : Type 0} {r : Rules C} {V R : Type 0} {kind : _} {b : Brought} {calls : List C} {answers : List (Result Answer Refusal)} {s : Shelf V R kind}
-    → Reached r b calls answers s → Type 0
+abbrev pub Each : {C : Type 0} {r : Rules C} {V R : Type 0} {kind : _} {b : Brought}
+    {calls : List C} {answers : List (Result Answer Refusal)} {s : Shelf V R kind} → Reached r b calls answers s → Type 0
 Each (fresh f is) = Unit {0}
 Each {r = r} {b = b} {s = s} (called {cs = cs} {xs = xs} {s = t} before c a step) =
     Each before × OneCall r b (after r b.build nothing cs xs) (measures (parts t)) c a (measures (parts s))
 
 -- what is promised of the list by which a shelf was reached
-pub record Kept {C : Type 0} {r : Rules C} {V R : Type 0} {kind : _} (m : Model V R) {b : Brought} {calls : List C} {answers : List (Result Answer Refusal)} {s : Shelf V R kind}
-    (h : Reached r b calls answers s) : Type 0 where
+pub record Kept {C : Type 0} {r : Rules C} {V R : Type 0} {kind : _} (m : Model V R) {b : Brought}
+    {calls : List C} {answers : List (Result Answer Refusal)} {s : Shelf V R kind} (h : Reached r b calls answers s) : Type 0 where
   -- build text, mark, and how much memory there is, are as they were brought
   pub memory : brought (parts s) ≡ b
   pub each : Each h

@@ -1,7 +1,8 @@
 //! What is told of shelves that any lists of calls have reached: each call asks the shelf's view.
 ghost use Rattle.std.specs.Prelude.{⊤};
 ghost use Rattle.text_shelf.specs.Calls.{every_shelf};
-ghost use Rattle.shelf_promise.specs.Promises.{HoldsAfter, KeptAfter, DocumentFolds, PartFolds, SlipsTold, WindowTold};
+ghost use Rattle.shelf_view.specs.Marked.{ReadsBackIn};
+ghost use Rattle.shelf_promise.specs.Promises.{HoldsAfter, KeptAfter, DocumentFolds, PartFolds, SlipsTold};
 
 use monoid::Monoid;
 use refusal::Refusal;
@@ -60,7 +61,7 @@ pub fn read_back<'b, 'a>(
     fingerprint: &[u8],
     out: &mut [u8],
 ) -> Result<usize, Refusal>
-    ensures { HoldsAfter every_shelf shelf.now (WindowTold d a b fingerprint.now out.old out.new result) }
+    ensures { HoldsAfter every_shelf shelf.now (λ s. ReadsBackIn s d a b fingerprint.now out.old out.new result) }
 {
     shelf.view().read_back(d, a, b, fingerprint, out)
 }

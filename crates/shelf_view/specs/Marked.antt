@@ -13,7 +13,9 @@ use Rattle.zemor.specs.declared.matrix.Entries.{Entries}
 use Rattle.zemor.specs.declared.matrix.Sl2.{Sl2}
 use Rattle.refusal.specs.declared.Refusal.{Refusal}
 use Rattle.refusal.specs.declared.Refusal.TheVariants.{BadFingerprint, NoWindow}
-use Rattle.shelf_view.specs.State.{State, text_at}
+use Rattle.rope.specs.Edits.{spliced}
+use Rattle.shelf_view.specs.Questions.{of_copy}
+use Rattle.shelf_view.specs.State.{State, text_at, part_at}
 use Rattle.shelf_view.specs.declared.sameness.Sameness.{Sameness}
 use Rattle.shelf_view.specs.declared.sameness.Sameness.TheVariants.{Different, Equal, Alike}
 
@@ -35,11 +37,11 @@ Compares n s t Alike = (5 < n) × (fingerprint s ≡ fingerprint t)
 
 -- what is told of the n bytes from a in document d and the n bytes from b in document e
 abbrev pub ComparesIn : State → ℕ → ℕ → ℕ → ℕ → ℕ → Sameness → Type 0
-ComparesIn s d a e b n r = Compares n (between a (a + n) (text_at s d)) (between b (b + n) (text_at s e)) r
+ComparesIn s d a e b n r = Compares n (part_at s d a (a + n)) (part_at s e b (b + n)) r
 
 -- the fingerprint that a window w gives: in the place of the part a to b of the text,
 abbrev pub in_part : List ℕ → ℕ → ℕ → List ℕ → Sl2
-in_part text a b w = fingerprint (take a text ++ (w ++ drop b text))
+in_part text a b w = fingerprint (spliced text a b w)
 
 -- and between what has the fingerprints front and back
 abbrev pub in_between : Sl2 → Sl2 → List ℕ → Sl2
@@ -61,5 +63,10 @@ pub data Unread (why : Option Refusal) (whole : List ℕ → Sl2) (digits : List
 abbrev pub ReadsBack : Option Refusal → (List ℕ → Sl2) → List ℕ → List ℕ → List ℕ → Result ℕ Refusal → Type 0
 ReadsBack why whole digits old new (Ok n) =
     (why ≡ None) × WellFormed digits
-    × ((w : List ℕ) × (GivesDigits whole digits w × ((v : List ℕ) → GivesDigits whole digits v → v ≡ w) × (n ≡ length w) × (new ≡ w ++ drop n old)))
+    × ((w : List ℕ) × (GivesDigits whole digits w × ((v : List ℕ) → GivesDigits whole digits v → v ≡ w)
+        × (n ≡ length w) × (new ≡ w ++ drop n old)))
 ReadsBack why whole digits old new (Err e) = Unread why whole digits e × (new ≡ old)
+
+-- read-back on a shelf: in the place of the part a to b of document d, into a buffer of five bytes or more
+abbrev pub ReadsBackIn : State → ℕ → ℕ → ℕ → List ℕ → List ℕ → List ℕ → Result ℕ Refusal → Type 0
+ReadsBackIn s d a b digits old new r = ReadsBack (of_copy s d a b 5 (length old)) (in_part (text_at s d) a b) digits old new r

@@ -1,6 +1,5 @@
 -- Where a document lies, and what its door gives.
 use Rattle.std.specs.Prelude.{◌≡◌, ℕ, true, slice_index_or}
-use Rattle.std.specs.List.{between}
 use Rattle.monoid.specs.Monoid.{Model}
 use Rattle.rope.specs.Arena.{Root, text_of, height_of, kept_of}
 use Rattle.rope.specs.Memory.{seen}
@@ -8,7 +7,7 @@ use Rattle.rope_read.specs.Texts.{bytes_in}
 use Rattle.rope_read.specs.declared.text.Text.{Text}
 use Rattle.rope_read.specs.declared.whole.Whole.{Whole}
 use Rattle.shelf_view.specs.Documents.{fine, root_in}
-use Rattle.shelf_view.specs.State.{Shelved, state_of, heights_of, kept_values, text_at, draft_text}
+use Rattle.shelf_view.specs.State.{Shelved, state_of, heights_of, kept_values, text_at, part_at, draft_text}
 
 -- p is the root of document d
 pub record Lies {V R : Type 0} (m : Model V R) (s : Shelved R) (d : ℕ) (p : Root) : Type 0 where
@@ -39,4 +38,4 @@ pub record IsPart {V R : Type 0} {kind : _} (m : Model V R) (s : Shelved R) (d a
   pub lies : Lies m s d t.root
   pub from_is : t.from ≡ a
   pub to_is : t.to ≡ b
-  pub text_is : bytes_in t ≡ between a b (text_at (state_of s) d)
+  pub text_is : bytes_in t ≡ part_at (state_of s) d a b

@@ -1,5 +1,6 @@
 -- What lies on a shelf, as a list of strings, and as trees.
 use Rattle.std.specs.Prelude.{ℕ, Bool, not, ◌&&◌, List, [], ◌∷◌, map, length, is_some, Option, ◌==◌, nat_le, slice_index_or}
+use Rattle.std.specs.List.{between}
 use Rattle.std.specs.Option.{option_map, unwrap_or}
 use Rattle.monoid.specs.Monoid.{Model}
 use Rattle.rope.specs.Arena.{Arena, Root, text_of, height_of, kept_of}
@@ -51,6 +52,10 @@ unknown s d = nat_le (length s.texts) d
 -- the text of document d
 abbrev pub text_at : State → ℕ → List ℕ
 text_at s d = slice_index_or s.texts d []
+
+-- its part a to b
+abbrev pub part_at : State → ℕ → ℕ → ℕ → List ℕ
+part_at s d a b = between a b (text_at s d)
 
 -- no draft is open on the shelf of this mark, or the draft's mark or count is another
 abbrev pub strange : State → ℕ → DraftId → Bool

@@ -11,7 +11,7 @@ use Rattle.rope.specs.Arena.{Root}
 use Rattle.rope.specs.declared.store.Store.{Store}
 use Rattle.rope.proofs.Keeping.{takes_added}
 use Rattle.rope_keep.specs.Kept.{Grows}
-use Rattle.rope_cut.specs.Parts.{spliced}
+use Rattle.rope.specs.Edits.{spliced}
 use Rattle.shelf_view.specs.Documents.{fine, all_fine, root_in}
 use Rattle.shelf_view.specs.State.{State, text_at}
 use Rattle.refusal.proofs.Firsts.{first_none}

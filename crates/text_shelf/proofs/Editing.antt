@@ -6,7 +6,9 @@ use Rattle.monoid.specs.Monoid.{Model}
 use Rattle.rope.specs.Memory.{arena_of, Takes, seen}
 use Rattle.rope.specs.Arena.{Root, height_of}
 use Rattle.rope.specs.declared.store.Store.{Store}
-use Rattle.rope_cut.specs.Parts.{Makes, edit_need, text_in, height_in, higher, spliced}
+use Rattle.rope.specs.Edits.{spliced}
+use Rattle.rope_cut.specs.Parts as Part
+use Rattle.rope_cut.specs.Parts.{Spliced, edit_need, text_in, height_in, higher}
 use Rattle.shelf_view.specs.State.{Shelved, state_of, heights_of, text_at}
 use Rattle.shelf_view.specs.Questions.{of_document, of_part}
 use Rattle.std.proofs.lemmas.List.Edits.{length-between}
@@ -21,13 +23,14 @@ use Rattle.shelf_view.proofs.Placing.{short_of, document_text, document_high}
 use Rattle.shelf_view.proofs.Reading.{part_is}
 use Rattle.text_shelf.specs.Shelves.{Parts, parts, shelved, brought, measures, strings}
 use Rattle.text_shelf.specs.Spans.{Spans}
-use Rattle.text_shelf.specs.Calls.{every_shelf, need}
+use Rattle.text_shelf.specs.Calls.{every_shelf, memory, document, need}
+use Rattle.text_shelf.specs.Whys.{why}
 use Rattle.text_shelf.specs.Steps.{reason_on}
 use Rattle.text_shelf.specs.declared.call.Call.TheVariants.{Cut, Splice}
 use Rattle.rope.specs.Held.{Gains}
 use Rattle.rope.specs.declared.lent.Lent.{Lent}
 use Rattle.text_shelf.specs.declared.shelf.Shelf.{Shelf}
-use Rattle.text_shelf.proofs.Reasoning.{told_spliced}
+use Rattle.text_shelf.proofs.Reasoning.{cut_decided, splice_decided, told_spliced}
 use Rattle.text_shelf.proofs.Appending.{Appends, Fits, append, takes_grows, cut_fits, splice_fits}
 
 -- the height of document d, as its door tells it
@@ -55,6 +58,13 @@ module _ {V R : Type 0} {kind : _} {m : Model V R} (v : Shelved R) (d : ℕ) {w 
         within = omega (arith, both.1, ap length (value ∙ document_text is));
       })
 
+  -- why a cut of it is refused
+  pub cut_told : (z : Shelf V R kind) → v ≡ shelved (parts z) → of_document (state_of v) d ≡ None → (h : ℕ) → h ≡ height_of (seen w.view) w.root
+      → (m : ℕ) → m ≡ edit_need h → (o : Option Refusal) → why (memory m) z ≡ o → reason_on every_shelf z (Cut d x y) ≡ o
+  cut_told z same one h high m need o decided =
+      cut_decided (brought (parts z)) (measures (parts z)) v (shelved (parts z)) same d x y h o (part_told v d is one text value x y lawful)
+      (high_told v (shelved (parts z)) same d is h high) (sym (ap (λ q. why (memory q) z) need) ∙ decided)
+
   -- and the length of the document with document e in its place
   pub spliced_told : (s : Shelved R) → v ≡ s → (e : ℕ) {u : Whole V R kind} → IsDocument m v e u → (n l k : ℕ)
       → n ≡ length (whole_bytes w) → l ≡ length (bytes_in part) → k ≡ length (whole_bytes u) → n - l + k ≡ length (spliced (text_at (state_of s) d) x y (text_at (state_of s) e))
@@ -62,6 +72,18 @@ module _ {V R : Type 0} {kind : _} {m : Model V R} (v : Shelved R) (d : ℕ) {w 
       let both = bounds_lawful (bytes_in text) x y lawful in
       ap (λ z. n - z + k) (len-part ∙ ap length slice.bytes ∙ length-between (bytes_in text) x y both.1)
       ∙ told_spliced v s same d e x y n k (len-d ∙ ap length (document_text is)) (len-e ∙ ap length (document_text other)) both.0 (omega (arith, both.1, ap length (value ∙ document_text is)))
+
+  -- and why the splice is refused
+  pub splice_told : (z : Shelf V R kind) → v ≡ shelved (parts z) → (e : ℕ) {u : Whole V R kind} → IsDocument m v e u
+      → of_document (state_of v) d ≡ None → of_document (state_of v) e ≡ None
+      → (n l k : ℕ) → n ≡ length (whole_bytes w) → l ≡ length (bytes_in part) → k ≡ length (whole_bytes u)
+      → (h i j : ℕ) → h ≡ max i j → i ≡ height_of (seen w.view) w.root → j ≡ height_of (seen u.view) u.root
+      → (m : ℕ) → m ≡ edit_need h → (o : Option Refusal) → why (document (n - l + k) m) z ≡ o → reason_on every_shelf z (Splice d x y e) ≡ o
+  splice_told z same e other one two n l k len-d len-part len-e h i j high high-d high-e m need o decided =
+      let s = shelved (parts z) in
+      splice_decided (brought (parts z)) (measures (parts z)) v s same d x y e one two (part_told v d is one text value x y lawful) _ h i j o
+      (spliced_told s same e other n l k len-d len-part len-e) high (high_told v s same d is i high-d) (high_told v s same e other j high-e)
+      (sym (ap (λ q. why (document (n - l + k) q) z) need) ∙ decided)
 
 -- the part of a document is not too long, and there is a place for it
 pub part_fits : {V R : Type 0} {kind : _} {m : Model V R} (s : Shelf V R kind) (d x y : ℕ) (p : Span) → Spans m (shelved (parts s)) d x y p
@@ -76,7 +98,7 @@ module _ {V R : Type 0} {kind : _} (m : Model V R) (s : Shelf V R kind) (store :
 
   module _ (d x y : ℕ) (p : Span) (span : Spans m (shelved (parts s)) d x y p) where
     pub cut_appends : reason_on every_shelf s (Cut d x y) ≡ None
-        → Makes s.store store root (between p.from p.to (text_in s.store p.root)) (edit_need (height_in s.store p.root)) (height_in s.store p.root)
+        → Part.Cut s.store store root p.root p.from p.to
         → Appends (parts s) after (between x y (text_at (strings (parts s)) d)) [] (need (measures (parts s)) (Cut d x y))
     cut_appends none made =
         let takes = subst (λ n. Takes s.store store (edit_need n)) (sym span.lies.high) made.takes in
@@ -84,8 +106,7 @@ module _ {V R : Type 0} {kind : _} (m : Model V R) (s : Shelf V R kind) (store :
         (made.text_is ∙ (λ i. between (span.from_is i) (span.to_is i) (sym span.lies.text_is i))) (part_fits s d x y p span none)
 
     pub splice_appends : (e : ℕ) (q : Root) → Lies m (shelved (parts s)) e q → reason_on every_shelf s (Splice d x y e) ≡ None
-        → Makes s.store store root (take p.from (text_in s.store p.root) ++ (text_in s.store q ++ drop p.to (text_in s.store p.root)))
-        (edit_need (higher s.store p.root q)) (higher s.store p.root q + 2)
+        → Spliced s.store store root p.root p.from p.to q (edit_need (higher s.store p.root q))
         → Appends (parts s) after (spliced (text_at (strings (parts s)) d) x y (text_at (strings (parts s)) e)) [] (need (measures (parts s)) (Splice d x y e))
     splice_appends e q lies none made =
         let high : higher s.store p.root q ≡ max (get_or (measures (parts s)).heights d 0) (get_or (measures (parts s)).heights e 0) = λ i. max (sym span.lies.high i) (sym lies.high i) in

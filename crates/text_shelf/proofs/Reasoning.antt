@@ -1,17 +1,16 @@
 -- Why an edit is refused, from what the view tells.
-use Rattle.std.proofs.Common.{◌≡◌, ℕ, ◌+◌, ◌-◌, ◌<◌, ◌≤◌, max, false, ltb, List, [], ◌∷◌, ◌++◌, length, get_or, Some, None, Option, sym, ap, ◌∙◌, arith, length-append, length-drop, length-take}
-use Rattle.std.proofs.lemmas.Bool.{lt-ltb, le-ltb}
-use Rattle.rope_cut.specs.Parts.{edit_need, spliced}
-use Rattle.refusal.specs.declared.limits.TheConstants.{MOST_TEXT}
+use Rattle.std.proofs.Common.{◌≡◌, ℕ, ◌+◌, ◌-◌, ◌≤◌, max, false, List, [], ◌∷◌, ◌++◌, length, get_or, Some, None, Option, sym, ap, ◌∙◌, arith, length-append, length-drop, length-take}
+use Rattle.rope.specs.Edits.{spliced}
+use Rattle.rope_cut.specs.Parts.{edit_need}
 use Rattle.refusal.specs.Refusals.{Reasons, first}
 use Rattle.rope_read.specs.Texts.{bad_part}
 use Rattle.shelf_view.specs.State.{Shelved, state_of, unknown, text_at}
 use Rattle.shelf_view.specs.Questions.{of_document, of_part}
 use Rattle.refusal.specs.declared.Refusal.{Refusal}
-use Rattle.refusal.specs.declared.Refusal.TheVariants.{NoDocument, BadPart, TooLong}
-use Rattle.refusal.proofs.Firsts.{first_is, first_not, first_stays, first_then, first_or, passed}
+use Rattle.refusal.specs.declared.Refusal.TheVariants.{NoDocument, BadPart}
+use Rattle.refusal.proofs.Firsts.{first_not, first_stays, first_then, first_or, passed}
 use Rattle.text_shelf.specs.Shelves.{Brought, Measures}
-use Rattle.text_shelf.specs.Calls.{every_shelf, memory}
+use Rattle.text_shelf.specs.Calls.{every_shelf, memory, document}
 use Rattle.text_shelf.specs.Rules.{reason}
 use Rattle.text_shelf.specs.declared.call.Call.TheVariants.{Cut, Splice}
 
@@ -39,48 +38,38 @@ module _ {R : Type 0} (b : Brought) (t : Measures) (v s : Shelved R) (same : v �
       parted : Reasons
       parted = (bad_part (text_at (state_of s) d) x y, BadPart) ∷ []
 
-      long : Reasons
-      long = (ltb MOST_TEXT (length (spliced (text_at (state_of s) d) x y (text_at (state_of s) e))), TooLong) ∷ []
-
       last : Reasons
-      last = memory (edit_need (max (get_or t.heights d 0) (get_or t.heights e 0))) b t (state_of s)
+      last = document (length (spliced (text_at (state_of s) d) x y (text_at (state_of s) e))) (edit_need (max (get_or t.heights d 0) (get_or t.heights e 0))) b t (state_of s)
 
-      apart : reason every_shelf b t (state_of s) (Splice d x y e) ≡ first ((unknown (state_of s) d, NoDocument) ∷ (unknown (state_of s) e, NoDocument) ∷ (parted ++ (long ++ last)))
-      unfolding parted long last
-      apart = first_or (unknown (state_of s) d) (unknown (state_of s) e) NoDocument (parted ++ (long ++ last))
+      apart : reason every_shelf b t (state_of s) (Splice d x y e) ≡ first ((unknown (state_of s) d, NoDocument) ∷ (unknown (state_of s) e, NoDocument) ∷ (parted ++ last))
+      unfolding parted last
+      apart = first_or (unknown (state_of s) d) (unknown (state_of s) e) NoDocument (parted ++ last)
 
       known : (k : ℕ) → of_document (state_of v) k ≡ None → unknown (state_of s) k ≡ false
       known k h = (passed (unknown (state_of s) k) NoDocument [] (document_of k None h)).0
 
       module _ (one : of_document (state_of v) d ≡ None) where
-        past_one : reason every_shelf b t (state_of s) (Splice d x y e) ≡ first ((unknown (state_of s) e, NoDocument) ∷ (parted ++ (long ++ last)))
-        past_one = apart ∙ first_not NoDocument ((unknown (state_of s) e, NoDocument) ∷ (parted ++ (long ++ last))) (known d one)
+        past_one : reason every_shelf b t (state_of s) (Splice d x y e) ≡ first ((unknown (state_of s) e, NoDocument) ∷ (parted ++ last))
+        past_one = apart ∙ first_not NoDocument ((unknown (state_of s) e, NoDocument) ∷ (parted ++ last)) (known d one)
 
         module _ (two : of_document (state_of v) e ≡ None) where
-          past_two : reason every_shelf b t (state_of s) (Splice d x y e) ≡ first (parted ++ (long ++ last))
-          past_two = past_one ∙ first_not NoDocument (parted ++ (long ++ last)) (known e two)
+          past_two : reason every_shelf b t (state_of s) (Splice d x y e) ≡ first (parted ++ last)
+          past_two = past_one ∙ first_not NoDocument (parted ++ last) (known e two)
 
           part_alone : (o : Option Refusal) → of_part (state_of v) d x y ≡ o → first parted ≡ o
           unfolding parted
           part_alone o h = sym (first_not NoDocument ((bad_part (text_at (state_of s) d) x y, BadPart) ∷ []) (known d one)) ∙ part_of d x y o h
 
           pub splice_part : (f : Refusal) → of_part (state_of v) d x y ≡ Some f → reason every_shelf b t (state_of s) (Splice d x y e) ≡ Some f
-          splice_part f h = past_two ∙ first_stays parted (long ++ last) f (part_alone (Some f) h)
+          splice_part f h = past_two ∙ first_stays parted last f (part_alone (Some f) h)
 
-          module _ (part : of_part (state_of v) d x y ≡ None) (n : ℕ) (is : n ≡ length (spliced (text_at (state_of s) d) x y (text_at (state_of s) e))) where
-            past_part : reason every_shelf b t (state_of s) (Splice d x y e) ≡ first (long ++ last)
-            past_part = past_two ∙ first_then parted (long ++ last) (part_alone None part)
-
-            pub splice_long : MOST_TEXT < n → reason every_shelf b t (state_of s) (Splice d x y e) ≡ Some TooLong
-            unfolding long
-            splice_long h = past_part ∙ first_is TooLong last (ap (ltb MOST_TEXT) (sym is) ∙ lt-ltb _ _ h)
-
-            pub splice_decided : n ≤ MOST_TEXT → (h j k : ℕ) (w : Option Refusal) → h ≡ max j k → j ≡ get_or t.heights d 0 → k ≡ get_or t.heights e 0
-                → first (memory (edit_need h) b t (state_of s)) ≡ w → reason every_shelf b t (state_of s) (Splice d x y e) ≡ w
-            unfolding long last
-            splice_decided short h j k w high left right decided =
-                past_part ∙ first_not TooLong last (ap (ltb MOST_TEXT) (sym is) ∙ le-ltb _ _ short)
-                ∙ ap (λ k. first (memory (edit_need k) b t (state_of s))) (sym (high ∙ (λ i. max (left i) (right i)))) ∙ decided
+          pub splice_decided : of_part (state_of v) d x y ≡ None → (n h j k : ℕ) (w : Option Refusal) → n ≡ length (spliced (text_at (state_of s) d) x y (text_at (state_of s) e))
+              → h ≡ max j k → j ≡ get_or t.heights d 0 → k ≡ get_or t.heights e 0
+              → first (document n (edit_need h) b t (state_of s)) ≡ w → reason every_shelf b t (state_of s) (Splice d x y e) ≡ w
+          unfolding last
+          splice_decided part n h j k w long high left right decided =
+              let top = high ∙ (λ i. max (left i) (right i)) in
+              past_two ∙ first_then parted last (part_alone None part) ∙ sym (λ i. first (document (long i) (edit_need (top i)) b t (state_of s))) ∙ decided
 
 -- the length of a spliced text
 pub length_spliced : (d e : List ℕ) (x y : ℕ) → x ≤ y → y ≤ length d → length (spliced d x y e) ≡ length d - (y - x) + length e

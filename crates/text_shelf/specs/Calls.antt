@@ -2,12 +2,13 @@
 -- and why it is refused.
 use Rattle.std.specs.Prelude.{◌≡◌, ℕ, ◌+◌, ◌-◌, ◌≤◌, max, Bool, ◌||◌, List, [], ◌∷◌, ◌++◌, length, is_some, Some, None, Option, nat_le, nat_lt, slice_index}
 use Rattle.std.specs.List.{between}
-use Rattle.rope_cut.specs.Parts.{edit_need, spliced}
+use Rattle.rope.specs.Edits.{spliced}
+use Rattle.rope_cut.specs.Parts.{edit_need}
 use Rattle.rope_keep.specs.Kept.{text_need, add_need}
 use Rattle.refusal.specs.declared.limits.TheConstants.{MOST_BROUGHT, MOST_DRAFTS, MOST_TEXT}
 use Rattle.refusal.specs.Refusals.{Reasons}
 use Rattle.rope_read.specs.Texts.{bad_part}
-use Rattle.shelf_view.specs.State.{State, unknown, text_at, strange, draft_text}
+use Rattle.shelf_view.specs.State.{State, unknown, text_at, part_at, strange, draft_text}
 use Rattle.refusal.specs.declared.Refusal.TheVariants.{StrangeDraft, DraftOpen, NoDocument, BadPart, TooLong, TextFull, RecordsShort, NumbersSpent}
 use Rattle.text_shelf.specs.Shelves.{Brought, Measures}
 use Rattle.text_shelf.specs.Rules.{Rules}
@@ -29,7 +30,7 @@ with_draft s d = record { texts = s.texts; draft = d; opened = s.opened; added =
 abbrev pub accepted : List ℕ → Call → State → State
 accepted build (Put text) s = appended s text.now (length text.now)
 accepted build (Take a b) s = appended s (between a b build) 0
-accepted build (Cut d a b) s = appended s (between a b (text_at s d)) 0
+accepted build (Cut d a b) s = appended s (part_at s d a b) 0
 accepted build (Splice d a b e) s = appended s (spliced (text_at s d) a b (text_at s e)) 0
 accepted build Open s = record { texts = s.texts; draft = Some []; opened = s.opened + 1; added = s.added }
 accepted build (Add d text) s =
@@ -122,6 +123,10 @@ place b t s = (numbers_spent b s, NumbersSpent) ∷ []
 abbrev pub memory : ℕ → Because
 memory n b t s = records n b t s ++ place b t s
 
+-- where a document of n bytes more is asked for that may take k records
+abbrev pub document : ℕ → ℕ → Because
+document n k b t s = (nat_lt MOST_TEXT n, TooLong) ∷ memory k b t s
+
 -- where n bytes are to be added behind a draft of len bytes that is high high
 abbrev pub longer : ℕ → ℕ → ℕ → Because
 longer n len high b t s = (nat_lt MOST_BROUGHT n || nat_lt MOST_TEXT (len + n), TooLong) ∷ (bytes n b t s ++ records (add_need high n) b t s)
@@ -129,13 +134,12 @@ longer n len high b t s = (nat_lt MOST_BROUGHT n || nat_lt MOST_TEXT (len + n), 
 -- the reasons for which a call may be refused, in the order in which they are tested
 abbrev pub reasons : Brought → Measures → State → Call → Reasons
 reasons b t s (Put text) = (nat_lt MOST_BROUGHT (length text.now), TooLong) ∷ (bytes (length text.now) b t s ++ memory (need t (Put text)) b t s)
-reasons b t s (Take x y) = (bad_part b.build x y, BadPart) ∷ (nat_lt MOST_TEXT (y - x), TooLong) ∷ memory (need t (Take x y)) b t s
+reasons b t s (Take x y) = (bad_part b.build x y, BadPart) ∷ document (y - x) (need t (Take x y)) b t s
 reasons b t s (Cut d x y) = (unknown s d, NoDocument) ∷ (bad_part (text_at s d) x y, BadPart) ∷ memory (need t (Cut d x y)) b t s
 reasons b t s (Splice d x y e) =
     (unknown s d || unknown s e, NoDocument)
     ∷ (bad_part (text_at s d) x y, BadPart)
-    ∷ (nat_lt MOST_TEXT (length (spliced (text_at s d) x y (text_at s e))), TooLong)
-    ∷ memory (need t (Splice d x y e)) b t s
+    ∷ document (length (spliced (text_at s d) x y (text_at s e))) (need t (Splice d x y e)) b t s
 reasons b t s Open = (is_some s.draft || nat_le MOST_DRAFTS s.opened, DraftOpen) ∷ []
 reasons b t s (Add d text) = (strange s b.mark d, StrangeDraft) ∷ longer (length text.now) (length (draft_text s)) t.draft b t s
 reasons b t s (Seal d) = (strange s b.mark d, StrangeDraft) ∷ place b t s

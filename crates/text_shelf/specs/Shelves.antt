@@ -56,7 +56,8 @@ abbrev pub strings : {V R : Type 0} {kind : _} → Parts V R kind → State
 strings s = state_of (shelved s)
 
 -- a fresh shelf holds the empty text alone, and all memory is as it was brought
-pub record Fresh {V R : Type 0} {kind : _} (s : Parts V R kind) (build added : List ℕ) (records : List (Record R)) (places : List Root) (mark : ℕ) : Type 0 where
+pub record Fresh {V R : Type 0} {kind : _} (s : Parts V R kind)
+    (build added : List ℕ) (records : List (Record R)) (places : List Root) (mark : ℕ) : Type 0 where
   pub build_text : s.store.build.now ≡ take MOST_BYTES build
   pub added_memory : s.store.added.memory.now ≡ added
   pub records_memory : s.store.records.memory.now ≡ records

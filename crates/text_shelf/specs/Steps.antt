@@ -37,7 +37,8 @@ Does r s call a t =
 
 -- what a call does, by the reason to refuse it: it answers that refusal, and the whole shelf with all its memory is as
 -- it was; or, where there is none, it answers and leaves what the list of strings says
-abbrev pub Stepped : {C : Type 0} → Rules C → {V R : Type 0} {kind : _} → Option Refusal → Shelf V R kind → C → Result Answer Refusal → Shelf V R kind → Type 0
+abbrev pub Stepped : {C : Type 0} → Rules C → {V R : Type 0} {kind : _}
+    → Option Refusal → Shelf V R kind → C → Result Answer Refusal → Shelf V R kind → Type 0
 Stepped r (Some e) s call a t = (a ≡ Err e) × (t ≡ s)
 Stepped r None s call a t = Does r s call a (parts t)
 

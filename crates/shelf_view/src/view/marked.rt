@@ -2,9 +2,9 @@
 ghost use Rattle.std.specs.Prelude.{◌≡◌, length};
 ghost use Rattle.refusal.specs.Refusals.{Answers};
 ghost use Rattle.rope_read.specs.Texts.{bytes_in};
-ghost use Rattle.shelf_view.specs.State.{shown, strings_shown, text_at};
-ghost use Rattle.shelf_view.specs.Questions.{of_copy, of_same};
-ghost use Rattle.shelf_view.specs.Marked.{Compares, ComparesIn, in_part, ReadsBack};
+ghost use Rattle.shelf_view.specs.State.{shown, strings_shown};
+ghost use Rattle.shelf_view.specs.Questions.{of_same};
+ghost use Rattle.shelf_view.specs.Marked.{Compares, ComparesIn, ReadsBackIn};
 
 use super::View;
 use crate::marked::Marked;
@@ -54,7 +54,7 @@ impl<'v> View<'v, Marked> {
         fingerprint: &[u8],
         out: &mut [u8],
     ) -> Result<usize, Refusal>
-        ensures { ReadsBack (of_copy (strings_shown self.now) d a b 5 (length out.old)) (in_part (text_at (strings_shown self.now) d) a b) fingerprint.now out.old out.new result }
+        ensures { ReadsBackIn (strings_shown self.now) d a b fingerprint.now out.old out.new result }
     {
         let (front, back) = self.document(d)?.text().around(a, b)?;
         read_between(

@@ -7,7 +7,7 @@ ghost use Rattle.rope_cut.specs.Parts;
 ghost use Rattle.rope_keep.specs.Kept;
 ghost use Rattle.text_shelf.specs.Shelves.{parts, shelved};
 ghost use Rattle.text_shelf.specs.Spans.{Spans, SpliceSpans};
-ghost use Rattle.text_shelf.specs.Calls.{bytes, records, place, memory, longer};
+ghost use Rattle.text_shelf.specs.Calls.{bytes, records, place, memory, document, longer};
 ghost use Rattle.text_shelf.specs.Whys.{why};
 ghost use Rattle.text_shelf.specs.Steps.{reason_on};
 ghost use Rattle.text_shelf.specs.Calls.{every_shelf};
@@ -23,7 +23,6 @@ use shelf_view::draft_id::DraftId;
 
 /// The records that a new text of `n` bytes may take.
 fn text_need(n: usize) -> usize
-    requires { n ≤ MOST_TEXT }
     ensures { result ≡ Kept.text_need n }
 {
     2 * n.div_ceil(64)
@@ -75,11 +74,14 @@ impl<'b, 'a, M: Monoid> Shelf<'b, 'a, M> {
         self.place_for_one()
     }
 
-    /// Refuses where there is no memory for an edit of texts at most `high`.
-    fn memory_for_edit(&self, high: u8) -> Result<(), Refusal>
-        ensures { Answers (why (memory (Parts.edit_need high)) self.now) (λ x. ⊤) result }
+    /// Refuses where `len` bytes are too many for a document, or where there is no memory for one that may take `need` records.
+    fn memory_for_document(&self, len: usize, need: usize) -> Result<(), Refusal>
+        ensures { Answers (why (document len need) self.now) (λ x. ⊤) result }
     {
-        self.memory_for(edit_need(high))
+        if len > MOST_TEXT {
+            return Err(Refusal::TooLong);
+        }
+        self.memory_for(need)
     }
 
     pub(super) fn check_put(&self, text: &[u8]) -> Result<(), Refusal>
@@ -100,10 +102,7 @@ impl<'b, 'a, M: Monoid> Shelf<'b, 'a, M> {
             return Err(Refusal::BadPart);
         }
         let n = to - from;
-        if n > MOST_TEXT {
-            return Err(Refusal::TooLong);
-        }
-        self.memory_for(text_need(n))
+        self.memory_for_document(n, text_need(n))
     }
 
     /// The part to cut, or why there is none.
@@ -112,7 +111,7 @@ impl<'b, 'a, M: Monoid> Shelf<'b, 'a, M> {
     {
         let whole = self.view().document(d)?;
         let part = whole.text().part(from, to)?;
-        self.memory_for_edit(whole.height())?;
+        self.memory_for(edit_need(whole.height()))?;
         Ok(part.span())
     }
 
@@ -130,10 +129,9 @@ impl<'b, 'a, M: Monoid> Shelf<'b, 'a, M> {
         let whole = view.document(d)?;
         let more = view.document(other)?;
         let part = whole.text().part(from, to)?;
-        if whole.len() - part.len() + more.len() > MOST_TEXT {
-            return Err(Refusal::TooLong);
-        }
-        self.memory_for_edit(whole.height().max(more.height()))?;
+        let len = whole.len() - part.len() + more.len();
+        let high = whole.height().max(more.height());
+        self.memory_for_document(len, edit_need(high))?;
         Ok((part.span(), more.root()))
     }
 

@@ -1,5 +1,6 @@
 use Rattle.std.proofs.Common.{[], ◌∷◌, length, refl, ◌∙◌, arith, sym, subst, nat_lt}
 use Rattle.std.proofs.lemmas.Result.{err_from_is_err_and}
+use Rattle.refusal.specs.Refusals.{Reasons}
 use Rattle.refusal.specs.Writing.{of_room}
 use Rattle.std.proofs.lemmas.Slice.{between_from_start, between_to_end}
 use Rattle.rope_read.specs.Texts.{bad_part, bytes_in}
@@ -22,7 +23,7 @@ pub returns-in_err-front : goal.returns-in_err-front
 returns-in_err-front c =
     let s = strings_shown c.args.self.now in
     let text = c.text.ensures.value ∙ document_text c.in_ok-document.ensures.1 in
-    let part = (unknown s c.args.d, NoDocument) ∷ (bad_part (text_at s c.args.d) c.args.a c.args.b, BadPart) ∷ [] in
+    let part : Reasons = (unknown s c.args.d, NoDocument) ∷ (bad_part (text_at s c.args.d) c.args.a c.args.b, BadPart) ∷ [] in
     let p = err_from_is_err_and c.from_residual-in_err-front.result c.from_residual-in_err-front.ensures.1 in
     rw (p.1, p.2) (
       earlier (first_stays part ((nat_lt (length c.args.out.now) 5, SmallBuffer) ∷ []) _
@@ -35,7 +36,7 @@ returns c =
     let s = strings_shown c.args.self.now in
     let old = c.args.out.now in
     let digits = c.args.fingerprint.now in
-    let part = (unknown s c.args.d, NoDocument) ∷ (bad_part (text_at s c.args.d) c.args.a c.args.b, BadPart) ∷ [] in
+    let part : Reasons = (unknown s c.args.d, NoDocument) ∷ (bad_part (text_at s c.args.d) c.args.a c.args.b, BadPart) ∷ [] in
     let text = c.text.ensures.value ∙ document_text c.in_ok-document.ensures.1 in
     let sides = c.in_ok-front.ensures in
     let whole =
