@@ -58,56 +58,37 @@ fn wrong<'b, 'a>(
     })
 }
 
+// Fingerprints of texts, and what is none: too few digits, a capital, an entry of p, and a determinant other than 1.
+const OF_AA: &[u8] = b"0000018f0000014500000113000000e0";
+
+const OF_EMPTY: &[u8] = b"00000001000000000000000000000001";
+
+const ONE_SHORT: &[u8] = b"0000000100000000000000000000001";
+
+const UPPER_CASE: &[u8] = b"0000018F0000014500000113000000e0";
+
+const ENTRY_P: &[u8] = b"7fffffff000000010000000100000000";
+
+const NO_VALUE: &[u8] = b"0000018f0000014500000113000000e1";
+
 // Document 1 is "ab".
 static CASES: [(usize, &[Row]); 3] = [
     (
         5,
         &[
-            (
-                Ask::Back(1, 1, 2, b"0000018f0000014500000113000000e0"),
-                Ok(1),
-                b'a',
-            ),
-            (
-                Ask::Back(1, 0, 2, b"00000001000000000000000000000001"),
-                Ok(0),
-                9,
-            ),
-            (
-                Ask::Back(1, 1, 2, b"00000001000000000000000000000001"),
-                Err(10),
-                9,
-            ),
-            (
-                Ask::Back(1, 0, 2, b"0000000100000000000000000000001"),
-                Err(9),
-                9,
-            ),
-            (
-                Ask::Back(1, 1, 2, b"0000018F0000014500000113000000e0"),
-                Err(9),
-                9,
-            ),
-            (
-                Ask::Back(1, 1, 2, b"7fffffff000000010000000100000000"),
-                Err(9),
-                9,
-            ),
-            (
-                Ask::Back(1, 1, 2, b"0000018f0000014500000113000000e1"),
-                Err(9),
-                9,
-            ),
+            (Ask::Back(1, 1, 2, OF_AA), Ok(1), b'a'),
+            (Ask::Back(1, 0, 2, OF_EMPTY), Ok(0), 9),
+            (Ask::Back(1, 1, 2, OF_EMPTY), Err(10), 9),
+            (Ask::Back(1, 0, 2, ONE_SHORT), Err(9), 9),
+            (Ask::Back(1, 1, 2, UPPER_CASE), Err(9), 9),
+            (Ask::Back(1, 1, 2, ENTRY_P), Err(9), 9),
+            (Ask::Back(1, 1, 2, NO_VALUE), Err(9), 9),
         ],
     ),
     (
         4,
         &[
-            (
-                Ask::Back(1, 0, 2, b"00000001000000000000000000000001"),
-                Err(8),
-                9,
-            ),
+            (Ask::Back(1, 0, 2, OF_EMPTY), Err(8), 9),
             (Ask::Back(1, 0, 2, b""), Err(8), 9),
             (Ask::Back(1, 0, 3, b""), Err(6), 9),
             (Ask::Back(2, 3, 0, b""), Err(5), 9),
