@@ -11,7 +11,7 @@ use Rattle.rope.specs.Arena.{Root}
 use Rattle.rope.specs.declared.store.Store.{Store}
 use Rattle.rope.proofs.Keeping.{keeps_tree, takes_none, takes_trans, takes_within, free_after}
 use Rattle.rope.specs.Edits.{spliced}
-use Rattle.rope_cut.specs.Parts.{Rooted, Makes, Spliceable, text_in, height_in, higher, cut_cost, join_cost, splice_cost, edit_need}
+use Rattle.rope_cut.specs.Parts.{Rooted, Makes, Spliceable, text_in, height_in, higher, cut_cost, join_cost_in, splice_cost, edit_need}
 
 -- a root stays one, with its text and its height
 pub record Stays {V R : Type 0} {kind : _} (s s' : Store V R kind) (p : Root) : Type 0 where
@@ -91,10 +91,10 @@ module _ {V R : Type 0} {kind : _} {s s1 : Store V R kind} {p q before : Root} {
     pub tail_short : length (text_in s2 q) + length (text_in s2 behind) < 2 ^ 32
     tail_short = omega (arith, ap length other_is, behind_size, h.short, h.part.0)
 
-    pub tail_free : Free s2 (join_cost s2 q behind)
-    tail_free = free_after (join_cost s2 q behind) (edit_need (higher s p q)) (omega (arith, q1.high, q2.high, y.low, p1.high)) h.free two
+    pub tail_free : Free s2 (join_cost_in s2 q behind)
+    tail_free = free_after (join_cost_in s2 q behind) (edit_need (higher s p q)) (omega (arith, q1.high, q2.high, y.low, p1.high)) h.free two
 
-    module _ {s3 : Store V R kind} {tail : Root} (z : Makes s2 s3 tail (text_in s2 q ++ text_in s2 behind) (join_cost s2 q behind) (higher s2 q behind + 1)) where
+    module _ {s3 : Store V R kind} {tail : Root} (z : Makes s2 s3 tail (text_in s2 q ++ text_in s2 behind) (join_cost_in s2 q behind) (higher s2 q behind + 1)) where
       before3 : Stays s2 s3 before
       before3 = root_stays z.takes.keeps before before2.root
 
@@ -125,10 +125,10 @@ module _ {V R : Type 0} {kind : _} {s s1 : Store V R kind} {p q before : Root} {
       pub last_short : length (text_in s3 before) + length (text_in s3 tail) < 2 ^ 32
       last_short = omega (arith, ap length before3.text_is, ap length before2.text_is, before_size, tail_size, h.short, h.part.0, h.part.1)
 
-      pub last_free : Free s3 (join_cost s3 before tail)
-      last_free = free_after (join_cost s3 before tail) (edit_need (higher s p q)) (omega (arith, before_low, tail_low)) h.free three
+      pub last_free : Free s3 (join_cost_in s3 before tail)
+      last_free = free_after (join_cost_in s3 before tail) (edit_need (higher s p q)) (omega (arith, before_low, tail_low)) h.free three
 
-      pub replaced : {s4 : Store V R kind} {r : Root} → Makes s3 s4 r (text_in s3 before ++ text_in s3 tail) (join_cost s3 before tail) (higher s3 before tail + 1)
+      pub replaced : {s4 : Store V R kind} {r : Root} → Makes s3 s4 r (text_in s3 before ++ text_in s3 tail) (join_cost_in s3 before tail) (higher s3 before tail + 1)
           → Makes s s4 r (spliced (text_in s p) a b (text_in s q)) (splice_cost (higher s p q) (height_in s4 r)) (higher s p q + 2)
       replaced {s4} {r} v =
           record {

@@ -10,7 +10,7 @@ use Rattle.rope.specs.declared.store.Store.{Store}
 use Rattle.rope.proofs.Keeping.{takes_trans, takes_within, free_after}
 use Rattle.rope.proofs.Readings.{splits_size, splits_high}
 use Rattle.rope.specs.Edits.{spliced}
-use Rattle.rope_cut.specs.Parts.{Rooted, Makes, Spliceable, text_in, height_in, higher, join_cost, splice_cost, edit_need}
+use Rattle.rope_cut.specs.Parts.{Rooted, Makes, Spliceable, text_in, height_in, higher, join_cost_in, splice_cost, edit_need}
 use Rattle.rope_cut.proofs.Roots.{Stays, root_stays}
 
 -- the heights of a tree, of the child that changes, of the other child and of the text that is put in
@@ -81,10 +81,10 @@ module _ {V R : Type 0} {kind : _} {s : Store V R kind} {i l r a b : ℕ} {q : R
     pub left_short : length (text_in s1 x) + length (text_in s1 (Some r)) < 2 ^ 32
     left_short = omega (arith, left_size, ap length right_kept.text_is, splits_size e, h.short, h.part.0)
 
-    pub left_free : Free s1 (join_cost s1 x (Some r))
-    left_free = free_after (join_cost s1 x (Some r)) (edit_need (higher s (Some i) q)) (resplice_room left_levels (height_in s1 x) y.low) h.free y.takes
+    pub left_free : Free s1 (join_cost_in s1 x (Some r))
+    left_free = free_after (join_cost_in s1 x (Some r)) (edit_need (higher s (Some i) q)) (resplice_room left_levels (height_in s1 x) y.low) h.free y.takes
 
-    pub left_done : {s2 : Store V R kind} {z : Root} → Makes s1 s2 z (text_in s1 x ++ text_in s1 (Some r)) (join_cost s1 x (Some r)) (higher s1 x (Some r) + 1)
+    pub left_done : {s2 : Store V R kind} {z : Root} → Makes s1 s2 z (text_in s1 x ++ text_in s1 (Some r)) (join_cost_in s1 x (Some r)) (higher s1 x (Some r) + 1)
         → higher s1 x (Some r) ≤ height_in s2 z
         → Makes s s2 z (spliced (text_in s (Some i)) a b (text_in s q)) (splice_cost (higher s (Some i) q) (height_in s2 z)) (higher s (Some i) q + 2)
     left_done {s2} {z} j least =
@@ -123,14 +123,14 @@ module _ {V R : Type 0} {kind : _} {s : Store V R kind} {i l r a b : ℕ} {q : R
     pub right_short : length (text_in s1 (Some l)) + length (text_in s1 x) < 2 ^ 32
     right_short = omega (arith, right_size, ap length left_kept.text_is, splits_size e, h.short, h.part.0)
 
-    swapped : join_cost s1 x (Some l) ≡ join_cost s1 (Some l) x
+    swapped : join_cost_in s1 x (Some l) ≡ join_cost_in s1 (Some l) x
     swapped = omega arith
 
-    pub right_free : Free s1 (join_cost s1 (Some l) x)
+    pub right_free : Free s1 (join_cost_in s1 (Some l) x)
     right_free =
-        free_after (join_cost s1 (Some l) x) (edit_need (higher s (Some i) q)) (omega (arith, swapped, resplice_room right_levels (height_in s1 x) y.low)) h.free y.takes
+        free_after (join_cost_in s1 (Some l) x) (edit_need (higher s (Some i) q)) (omega (arith, swapped, resplice_room right_levels (height_in s1 x) y.low)) h.free y.takes
 
-    pub right_done : {s2 : Store V R kind} {z : Root} → Makes s1 s2 z (text_in s1 (Some l) ++ text_in s1 x) (join_cost s1 (Some l) x) (higher s1 (Some l) x + 1)
+    pub right_done : {s2 : Store V R kind} {z : Root} → Makes s1 s2 z (text_in s1 (Some l) ++ text_in s1 x) (join_cost_in s1 (Some l) x) (higher s1 (Some l) x + 1)
         → higher s1 (Some l) x ≤ height_in s2 z
         → Makes s s2 z (spliced (text_in s (Some i)) a b (text_in s q)) (splice_cost (higher s (Some i) q) (height_in s2 z)) (higher s (Some i) q + 2)
     right_done {s2} {z} j least =

@@ -1,6 +1,7 @@
 -- What the edits of a tree need and give.
-use Rattle.std.specs.Prelude.{◌≡◌, ℕ, ◌+◌, ◌-◌, ◌*◌, ◌^◌, ◌<◌, ◌≤◌, max, true, List, ◌++◌, length, take, drop}
+use Rattle.std.specs.Prelude.{◌≡◌, ℕ, ◌+◌, ◌-◌, ◌*◌, ◌^◌, ◌<◌, ◌≤◌, max, true, List, ◌++◌, length}
 use Rattle.std.specs.List.{between}
+use Rattle.rope_join.specs.Joins.{join_cost}
 use Rattle.rope.specs.Edits.{spliced}
 use Rattle.rope.specs.Tree.{Tree, text, size, height}
 use Rattle.rope.specs.Arena.{text_of, height_of, rooted}
@@ -52,12 +53,12 @@ abbrev pub PartedRoot : {V R : Type 0} {kind : _} → Store V R kind → Store V
 PartedRoot s s' r p bs = Makes s s' r bs (cut_cost (height_in s p) (height_in s' r)) (height_in s p)
 
 -- the records that a join of two roots may take
-abbrev pub join_cost : {V R : Type 0} {kind : _} → Store V R kind → Root → Root → ℕ
-join_cost s p q = 3 * ((height_in s p - height_in s q) + (height_in s q - height_in s p) - 1) + 1
+abbrev pub join_cost_in : {V R : Type 0} {kind : _} → Store V R kind → Root → Root → ℕ
+join_cost_in s p q = join_cost (height_in s p) (height_in s q)
 
 -- r is a root of the text at p and then that at q
 pub record JoinedRoots {V R : Type 0} {kind : _} (s s' : Store V R kind) (r p q : Root) : Type 0 where
-  pub makes : Makes s s' r (text_in s p ++ text_in s q) (join_cost s p q) (higher s p q + 1)
+  pub makes : Makes s s' r (text_in s p ++ text_in s q) (join_cost_in s p q) (higher s p q + 1)
   pub least : higher s p q ≤ height_in s' r
 
 -- the need of an edit of texts that are at most h high

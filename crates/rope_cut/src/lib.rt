@@ -5,7 +5,7 @@
 ghost use Rattle.std.specs.Prelude.{◌≡◌, ◌+◌, ◌-◌, ◌*◌, ◌^◌, ◌<◌, ◌≤◌, ◌++◌, length, take, drop};
 ghost use Rattle.rope.specs.Tree.{text, size};
 ghost use Rattle.rope.specs.Memory.{Free, tree_of};
-ghost use Rattle.rope_cut.specs.Parts.{Partable, Parted, PartedRoot, Rooted, JoinedRoots, Cut, Spliceable, Spliced, join_cost, splice_cost, edit_need, text_in, height_in, higher};
+ghost use Rattle.rope_cut.specs.Parts.{Partable, Parted, PartedRoot, Rooted, JoinedRoots, Cut, Spliceable, Spliced, join_cost_in, splice_cost, edit_need, text_in, height_in, higher};
 
 use monoid::Monoid;
 use rope::record::{Piece, Root, Shape};
@@ -99,7 +99,7 @@ pub fn back<'b, 'a, M: Monoid>(store: &mut Store<'b, 'a, M>, root: Root, a: u32)
 pub fn join_roots<'b, 'a, M: Monoid>(store: &mut Store<'b, 'a, M>, left: Root, right: Root) -> Root
     requires rooted { Rooted store.old left × Rooted store.old right }
     requires short { length (text_in store.old left) + length (text_in store.old right) < 2 ^ 32 }
-    requires free { Free store.old (join_cost store.old left right) }
+    requires free { Free store.old (join_cost_in store.old left right) }
     ensures { JoinedRoots store.old store.new result left right }
 {
     match (left, right) {

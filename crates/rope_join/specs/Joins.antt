@@ -29,10 +29,13 @@ pub record Joined {V R : Type 0} {kind : _} (s s' : Store V R kind) (x : ℕ) (t
   pub below : x < s'.records.used
   pub joins : Joins (tree_of s' x) t u
 
--- the records that a join of t and u may take: 1 where their heights differ by at most one, and 3 more for each level
--- that they differ by beyond that; so never more than 3 for each level and 1
+-- the records that a join of trees that are h and k high may take: 1 where the heights differ by at most one, and 3 more
+-- for each level that they differ by beyond that; so never more than 3 for each level and 1
+abbrev pub join_cost : ℕ → ℕ → ℕ
+join_cost h k = 3 * ((h - k) + (k - h) - 1) + 1
+
 abbrev pub apart : Tree → Tree → ℕ
-apart t u = 3 * ((height t - height u) + (height u - height t) - 1) + 1
+apart t u = join_cost (height t) (height u)
 
 -- what it takes to join a, b and c, of which the middle one is one higher than the others
 pub record Threes {V R : Type 0} {kind : _} (s : Store V R kind) (a b c : ℕ) : Type 0 where

@@ -13,7 +13,7 @@ use Rattle.rope.specs.declared.record.Origin.TheVariants.{Added}
 use Rattle.rope.specs.declared.store.Store.{Store}
 use Rattle.rope.proofs.Keeping.{keeps_none, keeps_trans}
 use Rattle.rope.proofs.Levels.{level_most}
-use Rattle.rope_cut.specs.Parts.{Rooted, Makes, text_in, height_in, higher, join_cost, edit_need}
+use Rattle.rope_cut.specs.Parts.{Rooted, Makes, text_in, height_in, higher, join_cost_in, edit_need}
 use Rattle.rope_cut.proofs.Roots.{Stays, root_stays, rooted_stays}
 use Rattle.rope_keep.specs.Kept.{Grows, LowRoot, text_need, add_need}
 
@@ -85,13 +85,13 @@ module _ {V R : Type 0} {kind : _} {s s1 : Store V R kind} {p more : Root} {bs :
   pub both_short : length (text_in s1 p) + length (text_in s1 more) < 2 ^ 32
   both_short = omega (arith, ap length p1.text_is, ap length stood.text_is, short.1)
 
-  cheap : join_cost s1 p more ≤ edit_need (height_in s p)
+  cheap : join_cost_in s1 p more ≤ edit_need (height_in s p)
   cheap = let h = p1.high in let l = low in omega arith
 
-  pub both_free : Free s1 (join_cost s1 p more)
+  pub both_free : Free s1 (join_cost_in s1 p more)
   both_free = record { room = omega (arith, cheap, free.room, grown.cost, grown.keeps.records.room); few = omega (arith, cheap, free.few, grown.cost) }
 
-  module _ {s2 : Store V R kind} {r : Root} (j : Makes s1 s2 r (text_in s1 p ++ text_in s1 more) (join_cost s1 p more) (higher s1 p more + 1)) where
+  module _ {s2 : Store V R kind} {r : Root} (j : Makes s1 s2 r (text_in s1 p ++ text_in s1 more) (join_cost_in s1 p more) (higher s1 p more + 1)) where
     pub longer_grows : Grows s s2 bs (add_need (height_in s p) (length bs))
     longer_grows =
         let same : (arena_of s2).added ≡ (arena_of s1).added = ap (λ i. take i s2.added.memory.now) j.takes.added ∙ j.takes.keeps.added.before in

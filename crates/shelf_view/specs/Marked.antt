@@ -1,6 +1,5 @@
 -- The questions of a marked shelf, which keeps the pair of Zémor's product and line-column: its fingerprints.
-use Rattle.std.specs.List.{between}
-use Rattle.std.specs.Prelude.{◌≡◌, ℕ, ◌+◌, ◌<◌, ◌≤◌, List, ◌++◌, length, take, drop, Some, None, Ok, Err, Option, Result}
+use Rattle.std.specs.Prelude.{◌≡◌, ℕ, ◌+◌, ◌<◌, ◌≤◌, List, ◌++◌, length, drop, Some, None, Ok, Err, Option, Result}
 use Rattle.monoid.specs.Monoid.{Model, fold_of}
 use Rattle.monoid.specs.LineColumnValues.{line_column_model}
 use Rattle.monoid.specs.Pair.{pair_model}
@@ -64,7 +63,7 @@ abbrev pub ReadsBack : Option Refusal → (List ℕ → Sl2) → List ℕ → Li
 ReadsBack why whole digits old new (Ok n) =
     (why ≡ None) × WellFormed digits
     × ((w : List ℕ) × (GivesDigits whole digits w × ((v : List ℕ) → GivesDigits whole digits v → v ≡ w)
-        × (n ≡ length w) × (new ≡ w ++ drop n old)))
+    × (n ≡ length w) × (new ≡ w ++ drop n old)))
 ReadsBack why whole digits old new (Err e) = Unread why whole digits e × (new ≡ old)
 
 -- read-back on a shelf: in the place of the part a to b of document d, into a buffer of five bytes or more

@@ -67,15 +67,23 @@ impl<'b, 'a, M: Monoid> Shelf<'b, 'a, M> {
         }
     }
 
+    /// The name of the draft that was opened last.
+    pub(super) fn last_draft(&self) -> DraftId
+        ensures { result ≡ record { mark = self.now.mark; count = self.now.opened } }
+    {
+        DraftId {
+            mark: self.mark,
+            count: self.opened,
+        }
+    }
+
     /// Whether this is the token of the shelf's open draft, or none where none is open.
     pub(crate) fn is_token(&self, draft: &Option<Draft>) -> bool
         ensures { IsTrue result ↔ (draft.now ≡ token self.now) }
     {
         match (draft, self.draft) {
             (None, None) => true,
-            (Some(draft), Some(_)) => {
-                draft.id.mark == self.mark && draft.id.count == self.opened
-            }
+            (Some(draft), Some(_)) => draft.id == self.last_draft(),
             _ => false,
         }
     }
@@ -87,10 +95,7 @@ impl<'b, 'a, M: Monoid> Shelf<'b, 'a, M> {
         match self.draft {
             None => None,
             Some(_) => Some(Draft {
-                id: DraftId {
-                    mark: self.mark,
-                    count: self.opened,
-                },
+                id: self.last_draft(),
             }),
         }
     }

@@ -9,7 +9,6 @@ use monoid::Monoid;
 use refusal::Refusal;
 use refusal::limits::MOST_DRAFTS;
 use rope_keep::lengthen;
-use shelf_view::draft_id::DraftId;
 
 impl<'b, 'a, M: Monoid> Shelf<'b, 'a, M> {
     /// Starts an empty draft, and answers its token. Refused with DRAFT OPEN while one is open, and after 4,294,967,295 drafts.
@@ -23,10 +22,7 @@ impl<'b, 'a, M: Monoid> Shelf<'b, 'a, M> {
         self.draft = Some(None);
         self.opened += 1;
         Ok(Draft {
-            id: DraftId {
-                mark: self.mark,
-                count: self.opened,
-            },
+            id: self.last_draft(),
         })
     }
 }

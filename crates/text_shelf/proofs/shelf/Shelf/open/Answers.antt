@@ -7,4 +7,4 @@ use Rattle.text_shelf.proofs.shelf.Shelf.open.Goals as goal
 pub returns : goal.returns
 returns g c =
     let s = c.args.self.now in
-    rw (none_open (text_of (arena_of s.store)) s.draft s.opened c.if-is_some.ensures (omega arith)) (open_does s)
+    rw (c.last_draft.ensures, none_open (text_of (arena_of s.store)) s.draft s.opened c.if-is_some.ensures (omega arith)) (open_does s)
