@@ -1,8 +1,9 @@
 -- Where two texts part, and the lines of a part.
-use Rattle.std.specs.Prelude.{◌≡◌, ℕ, ◌+◌, ◌≤◌, ◌==◌, Bool, not, List, ◌++◌, reverse, length, drop, take, take_while, position, zip, Option, min}
+use Rattle.std.specs.Prelude.{◌≡◌, ℕ, ◌+◌, ◌≤◌, ◌==◌, Bool, not, List, reverse, length, drop, take, take_while, position, zip, Option, min}
 use Rattle.std.specs.List.{between}
 use Rattle.std.specs.Char.{is_ascii_digit}
 use Rattle.std.specs.Option.{option_map}
+use Rattle.rope.specs.Edits.{spliced}
 use Rattle.compare.specs.declared.change.Part.{Part}
 use Rattle.compare.specs.declared.change.Change.{Change}
 
@@ -23,7 +24,7 @@ pub record IsChange (old new : List ℕ) (c : Change) : Type 0 where
   pub new_to : c.new.to + back_of (drop c.old.from old) (drop c.old.from new) ≡ length new
   pub old_part : c.old.from ≤ c.old.to
   pub new_part : c.new.from ≤ c.new.to
-  pub replaced : new ≡ take c.old.from old ++ (between c.new.from c.new.to new ++ drop c.old.to old)
+  pub replaced : new ≡ spliced old c.old.from c.old.to (between c.new.from c.new.to new)
 
 -- how many bytes of a line stand before a place, and from it on
 abbrev pub no_newline : ℕ → Bool

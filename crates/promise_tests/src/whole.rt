@@ -1,4 +1,5 @@
 //! The promise, whole, on one call.
+use crate::figures::{DIGITS_1, DIGITS_3, DIGITS_4, DIGITS_6, DIGITS_EMPTY, DIGITS_OTHER_3};
 use crate::marks::{Digits, are_told, is_window};
 use crate::reach::{reach_one, reach_other};
 use crate::summaries::{All, Figures, is_told};
@@ -36,16 +37,9 @@ static OF_TWO: [Row; 2] = [
             },
             other: 1,
         },
-        b"3e8b23940d1cd49c7b7ea47b0eedad76",
+        DIGITS_1,
         (
-            Ok((
-                b"3e4d36281948a90b6e383271002e53cf",
-                9,
-                14,
-                1620787783,
-                996497972,
-                2081357974,
-            )),
+            Ok((DIGITS_6, 9, 14, 1620787783, 996497972, 2081357974)),
             Ok((
                 b"2113e02476d467061ab7266b0e2c6e00",
                 3,
@@ -54,10 +48,7 @@ static OF_TWO: [Row; 2] = [
                 937186357,
                 21478616,
             )),
-            Ok((
-                b"225ba45324671d9256d0e6b50ef21b43",
-                b"225ba45324671d9256d0e6b50ef21b43",
-            )),
+            Ok((DIGITS_3, DIGITS_3)),
             Ok(b"8080"),
         ),
     ),
@@ -95,21 +86,11 @@ static OF_ONE: [Row; 1] = [(
         },
         other: 3,
     },
-    b"66a4cfb313d5ed2d111efa4731478f82",
+    DIGITS_OTHER_3,
     (
-        Ok((
-            b"3e4d36281948a90b6e383271002e53cf",
-            9,
-            14,
-            1620787783,
-            996497972,
-            2081357974,
-        )),
+        Ok((DIGITS_6, 9, 14, 1620787783, 996497972, 2081357974)),
         Err(6),
-        Ok((
-            b"3e8b23940d1cd49c7b7ea47b0eedad76",
-            b"225ba45324671d9256d0e6b50ef21b43",
-        )),
+        Ok((DIGITS_1, DIGITS_3)),
         Ok(b"808"),
     ),
 )];

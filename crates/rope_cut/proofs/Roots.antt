@@ -11,7 +11,7 @@ use Rattle.rope.specs.Arena.{Root}
 use Rattle.rope.specs.declared.store.Store.{Store}
 use Rattle.rope.proofs.Keeping.{keeps_tree, takes_none, takes_trans, takes_within, free_after}
 use Rattle.rope.specs.Edits.{spliced}
-use Rattle.rope_cut.specs.Parts.{Rooted, Makes, Spliceable, text_in, height_in, higher, cut_cost, join_cost_in, splice_cost, edit_need}
+use Rattle.rope_cut.specs.Parts.{Rooted, Makes, Spliceable, text_in, height_in, higher, part_cost, join_cost_in, splice_cost, edit_need}
 
 -- a root stays one, with its text and its height
 pub record Stays {V R : Type 0} {kind : _} (s s' : Store V R kind) (p : Root) : Type 0 where
@@ -30,13 +30,13 @@ pub rooted_stays : {V R : Type 0} {kind : _} {s s' : Store V R kind} {p : Root} 
 rooted_stays k h = record { root = k.root; short = omega (arith, ap length k.text_is, h.short) }
 
 -- nothing is left behind the whole text
-pub back_none : {V R : Type 0} {kind : _} (s : Store V R kind) (p : Root) (a : ℕ) → length (text_in s p) ≤ a → Makes s s None (drop a (text_in s p)) (cut_cost (height_in s p) 0) (height_in s p)
+pub back_none : {V R : Type 0} {kind : _} (s : Store V R kind) (p : Root) (a : ℕ) → length (text_in s p) ≤ a → Makes s s None (drop a (text_in s p)) (part_cost (height_in s p) 0) (height_in s p)
 back_none s p a h =
-    record { takes = takes_within (cut_cost (height_in s p) 0) (omega arith) (takes_none s); root = refl; text_is = sym (drop_all a (text_in s p) h); low = omega arith }
+    record { takes = takes_within (part_cost (height_in s p) 0) (omega arith) (takes_none s); root = refl; text_is = sym (drop_all a (text_in s p) h); low = omega arith }
 
 pub cut_done : {V R : Type 0} {kind : _} {s s1 s2 : Store V R kind} {q r : Root} (p : Root) (a b : ℕ)
-    → Makes s s1 q (take b (text_in s p)) (cut_cost (height_in s p) (height_in s1 q)) (height_in s p)
-    → Makes s1 s2 r (drop a (text_in s1 q)) (cut_cost (height_in s1 q) (height_in s2 r)) (height_in s1 q)
+    → Makes s s1 q (take b (text_in s p)) (part_cost (height_in s p) (height_in s1 q)) (height_in s p)
+    → Makes s1 s2 r (drop a (text_in s1 q)) (part_cost (height_in s1 q) (height_in s2 r)) (height_in s1 q)
     → Makes s s2 r (between a b (text_in s p)) (edit_need (height_in s p)) (height_in s p)
 cut_done {s} p a b x y =
     record {
@@ -47,7 +47,7 @@ cut_done {s} p a b x y =
     }
 
 module _ {V R : Type 0} {kind : _} {s s1 : Store V R kind} {p q before : Root} {a b : ℕ}
-    (h : Spliceable s p a b q) (x : Makes s s1 before (take a (text_in s p)) (cut_cost (height_in s p) (height_in s1 before)) (height_in s p)) where
+    (h : Spliceable s p a b q) (x : Makes s s1 before (take a (text_in s p)) (part_cost (height_in s p) (height_in s1 before)) (height_in s p)) where
   p1 : Stays s s1 p
   p1 = root_stays x.takes.keeps p h.rooted.0.root
 
@@ -63,7 +63,7 @@ module _ {V R : Type 0} {kind : _} {s s1 : Store V R kind} {p q before : Root} {
   pub second_free : Free s1 (4 * height_in s1 p + 1)
   second_free = free_after (4 * height_in s1 p + 1) (edit_need (higher s p q)) (omega (arith, x.low, p1.high)) h.free x.takes
 
-  module _ {s2 : Store V R kind} {behind : Root} (y : Makes s1 s2 behind (drop b (text_in s1 p)) (cut_cost (height_in s1 p) (height_in s2 behind)) (height_in s1 p)) where
+  module _ {s2 : Store V R kind} {behind : Root} (y : Makes s1 s2 behind (drop b (text_in s1 p)) (part_cost (height_in s1 p) (height_in s2 behind)) (height_in s1 p)) where
     q2 : Stays s1 s2 q
     q2 = root_stays y.takes.keeps q q1.root
 

@@ -2,10 +2,10 @@
 //! back begins at one below the length, since no tree is empty.
 #![tactic(auto)]
 
-ghost use Rattle.std.specs.Prelude.{◌≡◌, ◌+◌, ◌-◌, ◌*◌, ◌^◌, ◌<◌, ◌≤◌, ◌++◌, length, take, drop};
+ghost use Rattle.std.specs.Prelude.{◌≡◌, ◌+◌, ◌-◌, ◌*◌, ◌^◌, ◌<◌, ◌≤◌, length, take, drop};
 ghost use Rattle.rope.specs.Tree.{text, size};
 ghost use Rattle.rope.specs.Memory.{Free, tree_of};
-ghost use Rattle.rope_cut.specs.Parts.{Partable, Parted, PartedRoot, Rooted, JoinedRoots, Cut, Spliceable, Spliced, join_cost_in, splice_cost, edit_need, text_in, height_in, higher};
+ghost use Rattle.rope_cut.specs.Parts.{Partable, Parted, PartedRoot, Rooted, JoinedRoots, CutRoot, Spliceable, SplicedRoot, join_cost_in, splice_cost, edit_need, text_in, height_in, higher};
 
 use monoid::Monoid;
 use rope::record::{Piece, Root, Shape};
@@ -114,7 +114,7 @@ pub fn cut<'b, 'a, M: Monoid>(store: &mut Store<'b, 'a, M>, root: Root, a: u32, 
     requires rooted { Rooted store.old root }
     requires part { (a ≤ b) × (b ≤ length (text_in store.old root)) }
     requires free { Free store.old (edit_need (height_in store.old root)) }
-    ensures { Cut store.old store.new result root a b }
+    ensures { CutRoot store.old store.new result root a b }
 {
     let before = front(store, root, b);
     back(store, before, a)
@@ -140,7 +140,7 @@ fn replace<'b, 'a, M: Monoid>(
     other: Root,
 ) -> Root
     requires { Spliceable store.old root a b other }
-    ensures { Spliced store.old store.new result root a b other (splice_cost (higher store.old root other) (height_in store.new result)) }
+    ensures { SplicedRoot store.old store.new result root a b other (splice_cost (higher store.old root other) (height_in store.new result)) }
 {
     let before = front(store, root, a);
     let behind = back(store, root, b);
@@ -159,7 +159,7 @@ fn splice_at<'b, 'a, M: Monoid>(
     other: Root,
 ) -> Root
     requires { Spliceable store.old (Some i) a b other }
-    ensures { Spliced store.old store.new result (Some i) a b other (splice_cost (higher store.old (Some i) other) (height_in store.new result)) }
+    ensures { SplicedRoot store.old store.new result (Some i) a b other (splice_cost (higher store.old (Some i) other) (height_in store.new result)) }
 {
     if let Shape::Inner { left, right } = store.record(i).shape {
         let least = root_height(store, other);
@@ -188,7 +188,7 @@ pub fn splice<'b, 'a, M: Monoid>(
     requires part { (a ≤ b) × (b ≤ length (text_in store.old root)) }
     requires short { length (text_in store.old root) - (b - a) + length (text_in store.old other) < 2 ^ 32 }
     requires free { Free store.old (edit_need (higher store.old root other)) }
-    ensures { Spliced store.old store.new result root a b other (edit_need (higher store.old root other)) }
+    ensures { SplicedRoot store.old store.new result root a b other (edit_need (higher store.old root other)) }
 {
     match root {
         Some(i) => splice_at(store, i, a, b, other),

@@ -12,8 +12,8 @@ pub record Joinable {V R : Type 0} {kind : _} (s : Store V R kind) (l r n : ℕ)
   pub short : size (tree_of s l) + size (tree_of s r) < 2 ^ 32
 
 -- the heights of t and u differ by at most two
-abbrev pub Near : Tree → Tree → Type 0
-Near t u = (height t ≤ height u + 2) × (height u ≤ height t + 2)
+abbrev pub Balanceable : Tree → Tree → Type 0
+Balanceable t u = (height t ≤ height u + 2) × (height u ≤ height t + 2)
 
 -- the tree v has the text of t and then that of u, and is as high as the higher one or one higher; one higher where
 -- their heights differ by at most one

@@ -2,11 +2,11 @@
 //! while the store grows.
 #![tactic(auto)]
 
-ghost use Rattle.std.specs.Prelude.{◌≡◌, ◌+◌, ◌-◌, ◌<◌, ◌≤◌};
+ghost use Rattle.std.specs.Prelude.{◌≡◌, ◌+◌, ◌-◌, ◌<◌};
 ghost use Rattle.rope.specs.Tree.{height};
 ghost use Rattle.rope.specs.Arena.{Splits};
 ghost use Rattle.rope.specs.Memory.{arena_of, tree_of};
-ghost use Rattle.rope_join.specs.Joins.{apart, Joinable, Near, Joined, Threes, Middled};
+ghost use Rattle.rope_join.specs.Joins.{apart, Joinable, Balanceable, Joined, Threes, Middled};
 
 use monoid::Monoid;
 use rope::record::Shape;
@@ -78,7 +78,7 @@ fn turn_right<'b, 'a, M: Monoid>(store: &mut Store<'b, 'a, M>, left: u32, right:
 /// The join of two trees whose heights differ by at most two.
 fn balance<'b, 'a, M: Monoid>(store: &mut Store<'b, 'a, M>, left: u32, right: u32) -> u32
     requires joinable { Joinable store.old left right 3 }
-    requires near { Near (tree_of store.old left) (tree_of store.old right) }
+    requires near { Balanceable (tree_of store.old left) (tree_of store.old right) }
     ensures { Joined store.old store.new result (tree_of store.old left) (tree_of store.old right) 3 }
 {
     if gap(store, right, left) > 1 {

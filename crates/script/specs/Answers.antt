@@ -110,12 +110,6 @@ pub data BrokenOff {V R : Type 0} {kind : _} (script : List ℕ) (i : ℕ) (s : 
   within : {a before : List ℕ} {j k n : ℕ} {t u : Shelf V R kind}
       → Turns script i s before j t → j < length script → Turn script j t a k u → n < length a → BrokenOff script i s (before ++ take n a) u
 
--- what `write_whole` does, for a writer that held the bytes `old` and holds the bytes `new`, where it tells them: all of
--- `bytes` are written; with an error a front of them, and not all
-abbrev pub WroteWhole : {E : Type 0} → Option (List ℕ) → Option (List ℕ) → List ℕ → Result (Unit {0}) E → Type 0
-WroteWhole old new bytes (Ok u) = Appends old new bytes
-WroteWhole old new bytes (Err e) = (n : ℕ) × (n < length bytes) × Appends old new (take n bytes)
-
 -- what `run_all` does, for a writer that held the bytes `old` and holds the bytes `new`, where it tells them: turns up to
 -- the script's end, and all their answers are written; with an error, turns up to one whose answer is not written whole
 abbrev pub RanAll : {V R : Type 0} {kind : _} {E : Type 0}

@@ -35,7 +35,7 @@ NoNumbersAt s i n = (ms t : List ℕ) → length ms ≡ n → AllByRecursion few
 abbrev pub ArgumentsAt : List ℕ → ℕ → List (Argument ℕ) → ℕ → Type 0
 ArgumentsAt s i xs j = NumbersAt s i (map (λ a. a.value) xs) (map (λ a. a.at) xs) j
 
--- the n numbers that are read from i to j, or None where no n numbers are written from i on
+-- the number arguments that are read from i to j, or None where no n of them are written from i on
 abbrev pub NumbersRead : List ℕ → ℕ → ℕ → Option (List (Argument ℕ)) → ℕ → Type 0
 NumbersRead s i n None j = NoNumbersAt s i n
 NumbersRead s i n (Some xs) j = ArgumentsAt s i xs j

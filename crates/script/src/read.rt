@@ -1,5 +1,5 @@
 //! Reading the command that stands at a place of a script.
-ghost use Rattle.std.specs.Prelude.{◌≡◌, MatchOption, ◌∷◌, []};
+ghost use Rattle.std.specs.Prelude.{◌≡◌, ◌∷◌, []};
 ghost use Rattle.script.specs.Commands.{ReadAt};
 ghost use Rattle.script.specs.Parsing.{TextRead, NumbersRead, CommandRead, CommandInside};
 ghost use Rattle.std.specs.Option.{option_map};

@@ -1,9 +1,9 @@
 //! Writing to a writer, so that it is known what has been written where that fails.
-ghost use Rattle.std.specs.Prelude.{◌≢◌, ◌<◌, ℕ, length, take, IfErr, MatchResult};
+ghost use Rattle.std.specs.Prelude.{◌≢◌, IfErr};
 ghost use Rattle.std.specs.Io.{WritesAtMost};
-ghost use Rattle.std.specs.Io.KnownBytes.{Appends, WriteAppends};
+ghost use Rattle.std.specs.Io.KnownBytes.{WriteAppends};
 ghost use Rattle.std.specs.IoError.{error_kind};
-ghost use Rattle.script.specs.Answers.{WroteWhole};
+ghost use Rattle.script.specs.Writer.{WroteWhole};
 
 use std::io;
 use std::io::{ErrorKind, Write};

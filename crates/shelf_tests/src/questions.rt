@@ -58,7 +58,7 @@ fn wrong<'b, 'a>(
     })
 }
 
-// Fingerprints of texts, and what is none: too few digits, a capital, an entry of p, and a determinant other than 1.
+// Fingerprints of texts, and what is none: too few digits, a capital, an entry of p, and a determinant of 400.
 const OF_AA: &[u8] = b"0000018f0000014500000113000000e0";
 
 const OF_EMPTY: &[u8] = b"00000001000000000000000000000001";
@@ -67,9 +67,9 @@ const ONE_SHORT: &[u8] = b"0000000100000000000000000000001";
 
 const UPPER_CASE: &[u8] = b"0000018F0000014500000113000000e0";
 
-const ENTRY_P: &[u8] = b"7fffffff000000010000000100000000";
+const ENTRY_P: &[u8] = b"7fffffff000000017ffffffe00000000";
 
-const NO_VALUE: &[u8] = b"0000018f0000014500000113000000e1";
+const DETERMINANT_400: &[u8] = b"0000018f0000014500000113000000e1";
 
 // Document 1 is "ab".
 static CASES: [(usize, &[Row]); 3] = [
@@ -82,7 +82,7 @@ static CASES: [(usize, &[Row]); 3] = [
             (Ask::Back(1, 0, 2, ONE_SHORT), Err(9), 9),
             (Ask::Back(1, 1, 2, UPPER_CASE), Err(9), 9),
             (Ask::Back(1, 1, 2, ENTRY_P), Err(9), 9),
-            (Ask::Back(1, 1, 2, NO_VALUE), Err(9), 9),
+            (Ask::Back(1, 1, 2, DETERMINANT_400), Err(9), 9),
         ],
     ),
     (

@@ -66,6 +66,6 @@ ReadsBack why whole digits old new (Ok n) =
     × (n ≡ length w) × (new ≡ w ++ drop n old)))
 ReadsBack why whole digits old new (Err e) = Unread why whole digits e × (new ≡ old)
 
--- read-back on a shelf: in the place of the part a to b of document d, into a buffer of five bytes or more
+-- read-back on a shelf, in the place of the part a to b of document d; a buffer below five bytes is refused
 abbrev pub ReadsBackIn : State → ℕ → ℕ → ℕ → List ℕ → List ℕ → List ℕ → Result ℕ Refusal → Type 0
 ReadsBackIn s d a b digits old new r = ReadsBack (of_copy s d a b 5 (length old)) (in_part (text_at s d) a b) digits old new r

@@ -7,8 +7,7 @@ use Rattle.rope.specs.Memory.{arena_of, Takes, seen}
 use Rattle.rope.specs.Arena.{Root, height_of}
 use Rattle.rope.specs.declared.store.Store.{Store}
 use Rattle.rope.specs.Edits.{spliced}
-use Rattle.rope_cut.specs.Parts as Part
-use Rattle.rope_cut.specs.Parts.{Spliced, edit_need, text_in, height_in, higher}
+use Rattle.rope_cut.specs.Parts.{CutRoot, SplicedRoot, edit_need, text_in, higher}
 use Rattle.shelf_view.specs.State.{Shelved, state_of, heights_of, text_at}
 use Rattle.shelf_view.specs.Questions.{of_document, of_part}
 use Rattle.std.proofs.lemmas.List.Edits.{length-between}
@@ -23,7 +22,7 @@ use Rattle.shelf_view.proofs.Placing.{short_of, document_text, document_high}
 use Rattle.shelf_view.proofs.Reading.{part_is}
 use Rattle.text_shelf.specs.Shelves.{Parts, parts, shelved, brought, measures, strings}
 use Rattle.text_shelf.specs.Spans.{Spans}
-use Rattle.text_shelf.specs.Calls.{every_shelf, memory, document, need}
+use Rattle.text_shelf.specs.Calls.{every_shelf, memory, new_document, need}
 use Rattle.text_shelf.specs.Whys.{why}
 use Rattle.text_shelf.specs.Steps.{reason_on}
 use Rattle.text_shelf.specs.declared.call.Call.TheVariants.{Cut, Splice}
@@ -78,12 +77,12 @@ module _ {V R : Type 0} {kind : _} {m : Model V R} (v : Shelved R) (d : ℕ) {w 
       → of_document (state_of v) d ≡ None → of_document (state_of v) e ≡ None
       → (n l k : ℕ) → n ≡ length (whole_bytes w) → l ≡ length (bytes_in part) → k ≡ length (whole_bytes u)
       → (h i j : ℕ) → h ≡ max i j → i ≡ height_of (seen w.view) w.root → j ≡ height_of (seen u.view) u.root
-      → (m : ℕ) → m ≡ edit_need h → (o : Option Refusal) → why (document (n - l + k) m) z ≡ o → reason_on every_shelf z (Splice d x y e) ≡ o
+      → (m : ℕ) → m ≡ edit_need h → (o : Option Refusal) → why (new_document (n - l + k) m) z ≡ o → reason_on every_shelf z (Splice d x y e) ≡ o
   splice_told z same e other one two n l k len-d len-part len-e h i j high high-d high-e m need o decided =
       let s = shelved (parts z) in
       splice_decided (brought (parts z)) (measures (parts z)) v s same d x y e one two (part_told v d is one text value x y lawful) _ h i j o
       (spliced_told s same e other n l k len-d len-part len-e) high (high_told v s same d is i high-d) (high_told v s same e other j high-e)
-      (sym (ap (λ q. why (document (n - l + k) q) z) need) ∙ decided)
+      (sym (ap (λ q. why (new_document (n - l + k) q) z) need) ∙ decided)
 
 -- the part of a document is not too long, and there is a place for it
 pub part_fits : {V R : Type 0} {kind : _} {m : Model V R} (s : Shelf V R kind) (d x y : ℕ) (p : Span) → Spans m (shelved (parts s)) d x y p
@@ -98,7 +97,7 @@ module _ {V R : Type 0} {kind : _} (m : Model V R) (s : Shelf V R kind) (store :
 
   module _ (d x y : ℕ) (p : Span) (span : Spans m (shelved (parts s)) d x y p) where
     pub cut_appends : reason_on every_shelf s (Cut d x y) ≡ None
-        → Part.Cut s.store store root p.root p.from p.to
+        → CutRoot s.store store root p.root p.from p.to
         → Appends (parts s) after (between x y (text_at (strings (parts s)) d)) [] (need (measures (parts s)) (Cut d x y))
     cut_appends none made =
         let takes = subst (λ n. Takes s.store store (edit_need n)) (sym span.lies.high) made.takes in
@@ -106,7 +105,7 @@ module _ {V R : Type 0} {kind : _} (m : Model V R) (s : Shelf V R kind) (store :
         (made.text_is ∙ (λ i. between (span.from_is i) (span.to_is i) (sym span.lies.text_is i))) (part_fits s d x y p span none)
 
     pub splice_appends : (e : ℕ) (q : Root) → Lies m (shelved (parts s)) e q → reason_on every_shelf s (Splice d x y e) ≡ None
-        → Spliced s.store store root p.root p.from p.to q (edit_need (higher s.store p.root q))
+        → SplicedRoot s.store store root p.root p.from p.to q (edit_need (higher s.store p.root q))
         → Appends (parts s) after (spliced (text_at (strings (parts s)) d) x y (text_at (strings (parts s)) e)) [] (need (measures (parts s)) (Splice d x y e))
     splice_appends e q lies none made =
         let high : higher s.store p.root q ≡ max (get_or (measures (parts s)).heights d 0) (get_or (measures (parts s)).heights e 0) = λ i. max (sym span.lies.high i) (sym lies.high i) in

@@ -10,7 +10,7 @@ use Rattle.refusal.specs.declared.Refusal.{Refusal}
 use Rattle.refusal.specs.declared.Refusal.TheVariants.{NoDocument, BadPart}
 use Rattle.refusal.proofs.Firsts.{first_not, first_stays, first_then, first_or, passed}
 use Rattle.text_shelf.specs.Shelves.{Brought, Measures}
-use Rattle.text_shelf.specs.Calls.{every_shelf, memory, document}
+use Rattle.text_shelf.specs.Calls.{every_shelf, memory, new_document}
 use Rattle.text_shelf.specs.Rules.{reason}
 use Rattle.text_shelf.specs.declared.call.Call.TheVariants.{Cut, Splice}
 
@@ -39,7 +39,7 @@ module _ {R : Type 0} (b : Brought) (t : Measures) (v s : Shelved R) (same : v �
       parted = (bad_part (text_at (state_of s) d) x y, BadPart) ∷ []
 
       last : Reasons
-      last = document (length (spliced (text_at (state_of s) d) x y (text_at (state_of s) e))) (edit_need (max (get_or t.heights d 0) (get_or t.heights e 0))) b t (state_of s)
+      last = new_document (length (spliced (text_at (state_of s) d) x y (text_at (state_of s) e))) (edit_need (max (get_or t.heights d 0) (get_or t.heights e 0))) b t (state_of s)
 
       apart : reason every_shelf b t (state_of s) (Splice d x y e) ≡ first ((unknown (state_of s) d, NoDocument) ∷ (unknown (state_of s) e, NoDocument) ∷ (parted ++ last))
       unfolding parted last
@@ -65,11 +65,11 @@ module _ {R : Type 0} (b : Brought) (t : Measures) (v s : Shelved R) (same : v �
 
           pub splice_decided : of_part (state_of v) d x y ≡ None → (n h j k : ℕ) (w : Option Refusal) → n ≡ length (spliced (text_at (state_of s) d) x y (text_at (state_of s) e))
               → h ≡ max j k → j ≡ get_or t.heights d 0 → k ≡ get_or t.heights e 0
-              → first (document n (edit_need h) b t (state_of s)) ≡ w → reason every_shelf b t (state_of s) (Splice d x y e) ≡ w
+              → first (new_document n (edit_need h) b t (state_of s)) ≡ w → reason every_shelf b t (state_of s) (Splice d x y e) ≡ w
           unfolding last
           splice_decided part n h j k w long high left right decided =
               let top = high ∙ (λ i. max (left i) (right i)) in
-              past_two ∙ first_then parted last (part_alone None part) ∙ sym (λ i. first (document (long i) (edit_need (top i)) b t (state_of s))) ∙ decided
+              past_two ∙ first_then parted last (part_alone None part) ∙ sym (λ i. first (new_document (long i) (edit_need (top i)) b t (state_of s))) ∙ decided
 
 -- the length of a spliced text
 pub length_spliced : (d e : List ℕ) (x y : ℕ) → x ≤ y → y ≤ length d → length (spliced d x y e) ≡ length d - (y - x) + length e

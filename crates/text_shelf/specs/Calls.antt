@@ -119,13 +119,13 @@ records n b t s = (records_short b t n, RecordsShort) ∷ []
 abbrev pub place : Because
 place b t s = (numbers_spent b s, NumbersSpent) ∷ []
 
--- where a document more is asked for that may take n records
+-- where one document more is asked for that may take k records
 abbrev pub memory : ℕ → Because
-memory n b t s = records n b t s ++ place b t s
+memory k b t s = records k b t s ++ place b t s
 
--- where a document of n bytes more is asked for that may take k records
-abbrev pub document : ℕ → ℕ → Because
-document n k b t s = (nat_lt MOST_TEXT n, TooLong) ∷ memory k b t s
+-- where one document more, of n bytes, is asked for that may take k records
+abbrev pub new_document : ℕ → ℕ → Because
+new_document n k b t s = (nat_lt MOST_TEXT n, TooLong) ∷ memory k b t s
 
 -- where n bytes are to be added behind a draft of len bytes that is high high
 abbrev pub longer : ℕ → ℕ → ℕ → Because
@@ -134,12 +134,12 @@ longer n len high b t s = (nat_lt MOST_BROUGHT n || nat_lt MOST_TEXT (len + n), 
 -- the reasons for which a call may be refused, in the order in which they are tested
 abbrev pub reasons : Brought → Measures → State → Call → Reasons
 reasons b t s (Put text) = (nat_lt MOST_BROUGHT (length text.now), TooLong) ∷ (bytes (length text.now) b t s ++ memory (need t (Put text)) b t s)
-reasons b t s (Take x y) = (bad_part b.build x y, BadPart) ∷ document (y - x) (need t (Take x y)) b t s
+reasons b t s (Take x y) = (bad_part b.build x y, BadPart) ∷ new_document (y - x) (need t (Take x y)) b t s
 reasons b t s (Cut d x y) = (unknown s d, NoDocument) ∷ (bad_part (text_at s d) x y, BadPart) ∷ memory (need t (Cut d x y)) b t s
 reasons b t s (Splice d x y e) =
     (unknown s d || unknown s e, NoDocument)
     ∷ (bad_part (text_at s d) x y, BadPart)
-    ∷ document (length (spliced (text_at s d) x y (text_at s e))) (need t (Splice d x y e)) b t s
+    ∷ new_document (length (spliced (text_at s d) x y (text_at s e))) (need t (Splice d x y e)) b t s
 reasons b t s Open = (is_some s.draft || nat_le MOST_DRAFTS s.opened, DraftOpen) ∷ []
 reasons b t s (Add d text) = (strange s b.mark d, StrangeDraft) ∷ longer (length text.now) (length (draft_text s)) t.draft b t s
 reasons b t s (Seal d) = (strange s b.mark d, StrangeDraft) ∷ place b t s

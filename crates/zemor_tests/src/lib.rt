@@ -172,7 +172,7 @@ mod tests {
             "another determinant"
         );
         assert_eq!(rt;
-            read(b"7fffffff000000010000000100000000"),
+            read(b"7fffffff000000017ffffffe00000000"),
             Err(Refusal::BadFingerprint),
             "an entry p"
         );

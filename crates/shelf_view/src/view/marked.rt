@@ -2,7 +2,7 @@
 ghost use Rattle.std.specs.Prelude.{◌≡◌, length};
 ghost use Rattle.refusal.specs.Refusals.{Answers};
 ghost use Rattle.rope_read.specs.Texts.{bytes_in};
-ghost use Rattle.shelf_view.specs.State.{shown, strings_shown};
+ghost use Rattle.shelf_view.specs.State.{strings_shown};
 ghost use Rattle.shelf_view.specs.Questions.{of_same};
 ghost use Rattle.shelf_view.specs.Marked.{Compares, ComparesIn, ReadsBackIn};
 

@@ -7,7 +7,7 @@ ghost use Rattle.rope_cut.specs.Parts;
 ghost use Rattle.rope_keep.specs.Kept;
 ghost use Rattle.text_shelf.specs.Shelves.{parts, shelved};
 ghost use Rattle.text_shelf.specs.Spans.{Spans, SpliceSpans};
-ghost use Rattle.text_shelf.specs.Calls.{bytes, records, place, memory, document, longer};
+ghost use Rattle.text_shelf.specs.Calls.{bytes, records, place, memory, new_document, longer};
 ghost use Rattle.text_shelf.specs.Whys.{why};
 ghost use Rattle.text_shelf.specs.Steps.{reason_on};
 ghost use Rattle.text_shelf.specs.Calls.{every_shelf};
@@ -75,8 +75,8 @@ impl<'b, 'a, M: Monoid> Shelf<'b, 'a, M> {
     }
 
     /// Refuses where `len` bytes are too many for a document, or where there is no memory for one that may take `need` records.
-    fn memory_for_document(&self, len: usize, need: usize) -> Result<(), Refusal>
-        ensures { Answers (why (document len need) self.now) (λ x. ⊤) result }
+    fn check_new_document(&self, len: usize, need: usize) -> Result<(), Refusal>
+        ensures { Answers (why (new_document len need) self.now) (λ x. ⊤) result }
     {
         if len > MOST_TEXT {
             return Err(Refusal::TooLong);
@@ -102,7 +102,7 @@ impl<'b, 'a, M: Monoid> Shelf<'b, 'a, M> {
             return Err(Refusal::BadPart);
         }
         let n = to - from;
-        self.memory_for_document(n, text_need(n))
+        self.check_new_document(n, text_need(n))
     }
 
     /// The part to cut, or why there is none.
@@ -131,7 +131,7 @@ impl<'b, 'a, M: Monoid> Shelf<'b, 'a, M> {
         let part = whole.text().part(from, to)?;
         let len = whole.len() - part.len() + more.len();
         let high = whole.height().max(more.height());
-        self.memory_for_document(len, edit_need(high))?;
+        self.check_new_document(len, edit_need(high))?;
         Ok((part.span(), more.root()))
     }
 

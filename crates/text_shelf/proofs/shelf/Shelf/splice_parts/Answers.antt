@@ -19,21 +19,21 @@ returns-in_err-part g c =
     rw (p.1, p.2) (splice_part (brought s) (measures s) v (shelved s) same c.args.d c.args.from c.args.to c.args.other one.0 two.0 _
     (part_told v c.args.d one.1 one.0 c.text.result c.text.ensures.value c.args.from c.args.to c.in_err-part.ensures))
 
-pub returns-in_err-memory_for_document : goal.returns-in_err-memory_for_document
-returns-in_err-memory_for_document g c =
-    let p = err_from_is_err_and c.from_residual-in_err-memory_for_document.result c.from_residual-in_err-memory_for_document.ensures.1 in
+pub returns-in_err-check_new_document : goal.returns-in_err-check_new_document
+returns-in_err-check_new_document g c =
+    let p = err_from_is_err_and c.from_residual-in_err-check_new_document.result c.from_residual-in_err-check_new_document.ensures.1 in
     rw (p.1, p.2)
     (splice_told (shown c.view-view.result) c.args.d c.in_ok-whole.ensures.1 c.text.result c.in_ok-part.part c.text.ensures.place c.text.ensures.bounds c.text.ensures.value
     c.args.from c.args.to c.in_ok-part.ensures.1 c.in_ok-part.ensures.0 c.args.self.now c.view-view.ensures c.args.other c.in_ok-more.ensures.1
     c.in_ok-whole.ensures.0 c.in_ok-more.ensures.0 _ _ _ c.len.ensures c.len-2.ensures c.len-3.ensures _ _ _ c.max-high.ensures c.height.ensures.value c.height-2.ensures.value
-    _ c.edit_need.ensures _ c.in_err-memory_for_document.ensures)
+    _ c.edit_need.ensures _ c.in_err-check_new_document.ensures)
 
 pub returns : goal.returns
 returns g c = (
   splice_told (shown c.view-view.result) c.args.d c.in_ok-whole.ensures.1 c.text.result c.in_ok-part.part c.text.ensures.place c.text.ensures.bounds c.text.ensures.value
       c.args.from c.args.to c.in_ok-part.ensures.1 c.in_ok-part.ensures.0 c.args.self.now c.view-view.ensures c.args.other c.in_ok-more.ensures.1
       c.in_ok-whole.ensures.0 c.in_ok-more.ensures.0 _ _ _ c.len.ensures c.len-2.ensures c.len-3.ensures _ _ _ c.max-high.ensures c.height.ensures.value c.height-2.ensures.value
-      _ c.edit_need.ensures _ c.in_ok-memory_for_document.ensures.0,
+      _ c.edit_need.ensures _ c.in_ok-check_new_document.ensures.0,
   (
     subst (λ z. Spans g.M.Monoid.model z c.args.d c.args.from c.args.to c.span.result) c.view-view.ensures
         (spans (shown c.view-view.result) c.args.d c.in_ok-whole.ensures.1 c.text.result c.in_ok-part.part c.text.ensures.place c.text.ensures.bounds c.text.ensures.value
