@@ -1,5 +1,5 @@
 -- Products of bits: their first bit, that they tell their string, how large they are, and what they are modulo p.
-use Rattle.std.proofs.Common.{◌≡◌, ℕ, zero, suc, ◌+◌, ◌-◌, ◌*◌, ◌%◌, ◌<◌, ◌≤◌, Bool, true, false, List, [], ◌∷◌, ◌++◌, length, Some, sym, refl, ap, ◌∙◌, le_trans, le_refl, mod-eq_of_lt, zero-add, add-one, arith, length-append}
+use Rattle.std.proofs.Common.{◌≡◌, ℕ, zero, suc, ◌+◌, ◌-◌, ◌*◌, ◌%◌, ◌<◌, ◌≤◌, ◌⊎◌, inl, inr, Bool, true, false, List, [], ◌∷◌, ◌++◌, length, Some, sym, refl, ap, ◌∙◌, le_trans, le_refl, mod-eq_of_lt, zero-add, add-one, arith, length-append}
 use native.Mathlib.Nat.{mod-mod}
 use native.Mathlib.Decide.{le_ind}
 use Rattle.residue.specs.Residue.{prime}
@@ -7,7 +7,7 @@ use Rattle.residue.proofs.Modulo.{dot, same_add, same_mul}
 use Rattle.zemor.specs.Matrix.{identity, bit, matrix, times}
 use Rattle.zemor.specs.Bits.{product_of}
 use Rattle.residue.specs.Fibonacci.{fib}
-use Rattle.zemor.specs.Whole.{whole, whole_times, Bounded, FewBits}
+use Rattle.zemor.specs.Whole.{whole, whole_times, Bounded, Attained, FewBits}
 use Rattle.zemor.specs.Peeling.{First}
 use Rattle.zemor.specs.declared.matrix.Entries.{Entries}
 use Rattle.zemor.specs.Laws.{four}
@@ -133,6 +133,40 @@ product_whole w h =
 
 pub within : Bounded
 within w = let b = bounded w in let t : fib (length w + 1) ≡ fib (suc (length w)) = ap fib (add-one (length w)) in omega arith
+
+-- what n bits that alternate give, the first of them 0: of an even number the left column is F(n + 1) over F(n), of an odd
+-- number the right one
+pub data Column (n : ℕ) (m : Entries) : Type 0 where
+  on_left : m.a ≡ fib (suc n) → m.c ≡ fib n → Column n m
+  on_right : m.b ≡ fib (suc n) → m.d ≡ fib n → Column n m
+
+alternating : ℕ → List Bool
+alternating zero = []
+alternating (suc zero) = false ∷ []
+alternating (suc (suc n)) = false ∷ (true ∷ alternating n)
+
+alternating_long : (n : ℕ) → length (alternating n) ≡ n
+unfolding alternating
+alternating_long zero = refl
+alternating_long (suc zero) = refl
+alternating_long (suc (suc n)) = let h = alternating_long n in omega arith
+
+two_more : (n : ℕ) (m : Entries) → Column n m → Column (suc (suc n)) (whole_times (bit false) (whole_times (bit true) m))
+two_more n m (on_left a c) = on_left (omega arith) (omega arith)
+two_more n m (on_right b d) = on_right (omega arith) (omega arith)
+
+column : (n : ℕ) → Column n (whole (alternating n))
+unfolding alternating
+column zero = on_left refl refl
+column (suc zero) = on_right refl refl
+column (suc (suc n)) = two_more n (whole (alternating n)) (column n)
+
+pub attained : Attained
+attained n = (alternating n, (alternating_long n, by (whole (alternating n)) (column n)))
+  where
+    by : (m : Entries) → Column n m → (m.a ≡ fib (n + 1)) ⊎ (m.b ≡ fib (n + 1))
+    by m (on_left a c) = inl (a ∙ ap fib (sym (add-one n)))
+    by m (on_right b d) = inr (b ∙ ap fib (sym (add-one n)))
 
 -- the whole product of two strings, one behind the other
 pub whole_append : (u v : List Bool) → whole (u ++ v) ≡ whole_times (whole u) (whole v)

@@ -1,5 +1,5 @@
 -- Products of bits over whole numbers, without a modulus, and how large they are.
-use Rattle.std.specs.Prelude.{◌≡◌, ◌+◌, ◌*◌, ◌<◌, ◌≤◌, Bool, List, [], ◌∷◌, length}
+use Rattle.std.specs.Prelude.{◌≡◌, ℕ, ◌+◌, ◌*◌, ◌<◌, ◌≤◌, Bool, List, [], ◌∷◌, ◌⊎◌, length}
 use Rattle.residue.specs.Fibonacci.{fib}
 use Rattle.residue.specs.Residue.{prime}
 use Rattle.zemor.specs.Matrix.{matrix, identity, bit}
@@ -15,10 +15,14 @@ abbrev pub whole : List Bool → Entries
 whole [] = identity
 whole (b ∷ w) = whole_times (bit b) (whole w)
 
--- how large entries grow: with n bits up to F(n + 1), and no further
+-- how large entries grow: with n bits to no more than F(n + 1),
 abbrev pub Bounded : Type 0
 Bounded =
     (w : List Bool) → let f = fib (length w + 1) in ((whole w).a ≤ f) × ((whole w).b ≤ f) × ((whole w).c ≤ f) × ((whole w).d ≤ f)
+
+-- and with some n bits so far, for each n; so 45 bits are the most whose products always stay below p
+abbrev pub Attained : Type 0
+Attained = (n : ℕ) → (w : List Bool) × ((length w ≡ n) × (((whole w).a ≡ fib (n + 1)) ⊎ ((whole w).b ≡ fib (n + 1))))
 
 -- different bit strings have different products
 abbrev pub Apart : Type 0

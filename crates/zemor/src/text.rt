@@ -4,7 +4,7 @@ ghost use Rattle.monoid.specs.Monoid.{fold_of, all_bytes};
 ghost use Rattle.zemor.specs.Bits.{product_of, text_bits};
 ghost use Rattle.zemor.specs.Values.{sl2, row};
 ghost use Rattle.zemor.specs.Slips.{Slip, Exactly, SlipsShow};
-ghost use Rattle.zemor.specs.Whole.{Bounded, Apart, Edge};
+ghost use Rattle.zemor.specs.Whole.{Bounded, Attained, Apart, Edge};
 ghost use Rattle.zemor.specs.Figures.{Figures};
 
 use crate::matrix::Sl2;
@@ -22,10 +22,11 @@ pub fn fingerprint(text: &[u8]) -> Sl2
     fold(text)
 }
 
-/// What holds of products of bits: their bound, that they tell their string, and that slips always show. It
-/// does nothing.
+/// What holds of products of bits: their bound, that it is reached, that they tell their string, and that slips always
+/// show. It does nothing.
 pub fn products_stand()
     ensures bounded { Bounded }
+    ensures attained { Attained }
     ensures apart { Apart }
     ensures edge { Edge }
     ensures slips { SlipsShow }

@@ -1,6 +1,7 @@
 //! The written forms of a fingerprint: sixteen bytes, and 32 hexadecimal digits.
 ghost use Rattle.std.specs.Prelude.{◌≡◌, Some, true, length};
 ghost use Rattle.std.specs.Char.{is_ascii_uppercase};
+ghost use Rattle.std.specs.Fmt.{padded};
 ghost use Rattle.std.specs.List.{list_any};
 ghost use Rattle.std.specs.Option.{ok_or};
 ghost use Rattle.refusal.specs.declared.Refusal.TheVariants.{BadFingerprint};
@@ -59,13 +60,15 @@ impl Sl2 {
     }
 }
 
-/// Writes the 32 hexadecimal digits.
+/// Writes the 32 hexadecimal digits, which a width and a precision lay out as they do text.
 impl fmt::Display for Sl2 {
     ghost output = { λ x. Some (hex (bytes_of (row x))) };
 
+    ghost styled_output = { λ x spec. Some (padded spec (hex (bytes_of (row x)))) };
+
     fn fmt<W: fmt::Write>(&self, f: &mut fmt::Formatter<W>) -> fmt::Result {
         let digits = self.to_hex();
-        f.write_str(str::from_utf8(&digits).unwrap())
+        f.pad(str::from_utf8(&digits).unwrap())
     }
 }
 

@@ -1,9 +1,12 @@
-use Rattle.zemor.proofs.Products.{within, tells}
+use Rattle.zemor.proofs.Products.{within, attained, tells}
 use Rattle.zemor.proofs.Texts.{slips_show}
 use Rattle.zemor.proofs.text.products_stand.Goals as goal
 
 pub returns-clause-bounded : goal.returns-clause-bounded
 returns-clause-bounded c = within
+
+pub returns-clause-attained : goal.returns-clause-attained
+returns-clause-attained c = attained
 
 pub returns-clause-apart : goal.returns-clause-apart
 returns-clause-apart c = tells
