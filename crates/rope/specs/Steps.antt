@@ -61,6 +61,10 @@ pub record Appended {V R : Type 0} {kind : _} (s t : Store V R kind) (r : ℕ) (
 abbrev pub leaves : ℕ → ℕ
 leaves n = (n + 63) / 64
 
+-- a tree of a new text of n bytes is h high, and as low as its leaves allow
+abbrev pub Low : ℕ → ℕ → Type 0
+Low n h = 0 < h → 2 ^ (h - 1) < leaves n
+
 -- what it takes to build a tree of a part
 pub record Buildable {V R : Type 0} {kind : _} (s : Store V R kind) (origin : Origin) (start n : ℕ) : Type 0 where
   pub free : Free s (2 * leaves n)
@@ -74,4 +78,4 @@ pub record Built {V R : Type 0} {kind : _} (s t : Store V R kind) (r : ℕ) (ori
   pub below : r < t.records.used
   pub text_is : text (tree_of t r) ≡ part (arena_of s) origin start n
   pub high : leaves n ≤ 2 ^ height (tree_of t r)
-  pub low : 0 < height (tree_of t r) → 2 ^ (height (tree_of t r) - 1) < leaves n
+  pub low : Low n (height (tree_of t r))

@@ -3,7 +3,7 @@ use Rattle.std.specs.Prelude.{◌≡◌, ℕ, ◌+◌, ◌-◌, ◌*◌, ◌^◌
 use Rattle.refusal.specs.declared.limits.TheConstants.{MOST_BROUGHT}
 use Rattle.rope.specs.Arena.{rooted}
 use Rattle.rope.specs.Memory.{arena_of, Keeps}
-use Rattle.rope.specs.Steps.{leaves}
+use Rattle.rope.specs.Steps.{leaves, Low}
 use Rattle.rope.specs.Arena.{Root}
 use Rattle.rope.specs.declared.store.Store.{Store}
 use Rattle.rope_cut.specs.Parts.{text_in, height_in, edit_need}
@@ -27,5 +27,5 @@ pub record Grows {V R : Type 0} {kind : _} (s t : Store V R kind) (bs : List ℕ
 pub record LowRoot {V R : Type 0} {kind : _} (s : Store V R kind) (r : Root) (bs : List ℕ) : Type 0 where
   pub root : rooted s.records.used r ≡ true
   pub text_is : text_in s r ≡ bs
-  pub low : 0 < height_in s r → 2 ^ (height_in s r - 1) < leaves (length bs)
+  pub low : Low (length bs) (height_in s r)
   pub six : length bs ≤ MOST_BROUGHT → height_in s r ≤ 6

@@ -69,7 +69,7 @@ module _ {C : Type 0} (r : Rules C) {V R : Type 0} {kind : _} (b : Brought) (cs 
         more = changed.spares.records.more;
         cost = changed.cost;
         heights = λ d h. changed.heights d (subst (λ z. d < length z.texts) (sym g.state) h);
-        draft = step.2.1;
+        height_rule = step.2.1;
       } in
       record {
         going = record {

@@ -25,13 +25,13 @@ answered (Some e) a = Err e
 answered None a = Ok a
 
 -- how heights and records used go on from t to u over a call: a refused one changes nothing; after an accepted one no record
--- is given back, at most those of its need are taken, every document that was there keeps its height, and the draft's height
--- is as the rules say
+-- is given back, at most those of its need are taken, every document that was there keeps its height, and those of the draft
+-- and of a new document are as the rules say
 pub record Grown {C : Type 0} (r : Rules C) (c : C) (s : State) (t u : Measures) : Type 0 where
   pub more : t.used ≤ u.used
   pub cost : u.used ≤ t.used + r.need t c
   pub heights : (d : ℕ) → d < length s.texts → slice_index u.heights d ≡ slice_index t.heights d
-  pub draft : r.draft_height c t.draft u.draft
+  pub height_rule : r.height_rule c t u
 
 abbrev pub Goes : {C : Type 0} → Rules C → Bool → C → State → Measures → Measures → Type 0
 Goes r true c s t u = Grown r c s t u

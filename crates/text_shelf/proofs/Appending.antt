@@ -1,6 +1,7 @@
 -- A shelf with one document more.
-use Rattle.std.proofs.Common.{◌≡◌, ℕ, ◌+◌, ◌<◌, ◌≤◌, min, true, false, ltb, List, [], ◌∷◌, ◌++◌, map, length, get_or, take, None, Option, Ok, sym, ap, ◌∙◌, append-nil, arith, length-append, Bor}
+use Rattle.std.proofs.Common.{◌≡◌, ℕ, ◌+◌, ◌-◌, ◌<◌, ◌≤◌, min, true, false, ltb, List, [], ◌∷◌, ◌++◌, map, length, get_or, take, None, Option, Ok, sym, ap, ◌∙◌, append-nil, arith, length-append, Bor}
 use Rattle.std.proofs.lemmas.List.{length-map, length-take-le, map-append, get_or_append_left}
+use Rattle.std.proofs.Math.Seq.{get_or-append_seam}
 use Rattle.std.specs.List.{between}
 use Rattle.std.proofs.lemmas.List.Edits.{length-between}
 use Rattle.std.proofs.lemmas.Bool.{ltb-false, or_parts}
@@ -17,7 +18,7 @@ use Rattle.shelf_view.specs.State.{State, text_at}
 use Rattle.refusal.proofs.Firsts.{first_none}
 use Rattle.rope.specs.Held.{held, Gains}
 use Rattle.text_shelf.specs.Shelves.{Parts, parts, Brought, brought, Measures, measures, strings}
-use Rattle.text_shelf.specs.Calls.{appended, accepted, answer, need, brings, DraftHeight, every_shelf, reasons, numbers_spent}
+use Rattle.text_shelf.specs.Calls.{appended, accepted, answer, need, brings, new_height, HeightRule, every_shelf, reasons, numbers_spent}
 use Rattle.text_shelf.specs.Rules.{reason}
 use Rattle.text_shelf.specs.Steps.{Does, Changed}
 use Rattle.text_shelf.specs.declared.call.Call.{Call}
@@ -101,6 +102,11 @@ module _ {V R : Type 0} {kind : _} (s : Parts V R kind) (firm : Firm s) (store :
         ap (λ ps. 0 ∷ map (height_of (arena_of store)) ps) p.held_are ∙ ap (λ hs. 0 ∷ hs) (map-append (height_of (arena_of store)) (held s.places) (root ∷ []))
         ∙ (λ i. 0 ∷ (heights_stay s.store store g.keeps (held s.places) firm.documents i ++ (height_of (arena_of store) root ∷ [])))
 
+    pub newest_after : (d : Option Root) → new_height (measures s) (measures (after d)) ≡ height_of (arena_of store) root
+    newest_after d =
+        let xs = 0 ∷ map (height_of (arena_of s.store)) (held s.places) in
+        ap (λ hs. get_or hs (length xs) 0) heights_after ∙ get_or-append_seam xs (height_of (arena_of store) root) [] 0
+
     pub changed_after : (d : Option Root) → Changed s (after d) bs n
     changed_after d = record {
       same_brought = same_room places p.fills.room d s.opened;
@@ -118,17 +124,18 @@ pub record Fits (b : Brought) (s : State) (text : List ℕ) : Type 0 where
   pub short : length text ≤ MOST_TEXT
   pub free : numbers_spent b s ≡ false
 
--- all of it, for a draft that stays
-pub record Appends {V R : Type 0} {kind : _} (s t : Parts V R kind) (text bs : List ℕ) (n : ℕ) : Type 0 where
+-- all of it, for a draft that stays, and a document that is h high
+pub record Appends {V R : Type 0} {kind : _} (s t : Parts V R kind) (text bs : List ℕ) (n h : ℕ) : Type 0 where
   pub firm : Firm t
   pub strings_are : strings t ≡ appended (strings s) text (length bs)
   pub changed : Changed s t bs n
   pub draft : (measures t).draft ≡ (measures s).draft
+  pub newest : new_height (measures s) (measures t) ≡ h
 
 pub append : {V R : Type 0} {kind : _} (s : Shelf V R kind) (store : Store V R kind) (bs : List ℕ) (n : ℕ) → Grows s.store store bs n
     → (places : Lent Root MOST_PLACES) (root : Root) (text : List ℕ) → Gains s.places places (root ∷ []) → rooted store.records.used root ≡ true → text_of (arena_of store) root ≡ text
     → Fits (brought (parts s)) (strings (parts s)) text
-    → Appends (parts s) (record { store = store; places = places; draft = s.draft; mark = s.mark; opened = s.opened }) text bs n
+    → Appends (parts s) (record { store = store; places = places; draft = s.draft; mark = s.mark; opened = s.opened }) text bs n (height_of (arena_of store) root)
 append s store bs n g places root text p r is fits =
     let f = firm_of s in
     let root_fine = fine_root store root r (omega (arith, ap length is, fits.short)) in
@@ -137,26 +144,31 @@ append s store bs n g places root text p r is fits =
       strings_are = strings_after (parts s) f store bs n g places root text p root_fine is;
       changed = changed_after (parts s) f store bs n g places root text p root_fine is s.draft;
       draft = draft_height_stays s.store store g.keeps s.draft s.drafted;
+      newest = newest_after (parts s) f store bs n g places root text p root_fine is s.draft;
     }
 
 -- an accepted call that appends a document
 pub appended_does : {V R : Type 0} {kind : _} (s : Shelf V R kind) {t : Parts V R kind} (call : Call) (k : ℕ) (text : List ℕ)
     → k ≡ s.places.used + 1 → answer s.mark (strings (parts s)) call ≡ Made (length (strings (parts s)).texts)
     → accepted s.store.build.now call (strings (parts s)) ≡ appended (strings (parts s)) text (length (brings call))
-    → ((h j : ℕ) → j ≡ h → DraftHeight call h j)
-    → Appends (parts s) t text (brings call) (need (measures (parts s)) call) → Does every_shelf s call (Ok (Made k)) t
-appended_does s call k text n answers makes leaves a =
-    (ap Ok (ap Made (n ∙ sym (count_texts (parts s))) ∙ sym answers), a.strings_are ∙ sym makes, (a.changed, leaves _ _ a.draft))
+    → {h : ℕ} → Appends (parts s) t text (brings call) (need (measures (parts s)) call) h
+    → HeightRule call (measures (parts s)) (measures t) → Does every_shelf s call (Ok (Made k)) t
+appended_does s call k text n answers makes a rule =
+    (ap Ok (ap Made (n ∙ sym (count_texts (parts s))) ∙ sym answers), a.strings_are ∙ sym makes, (a.changed, rule))
 
 module _ (b : Brought) (t : Measures) (s : State) where
   pub put_fits : (text : Bor (List ℕ)) → reason every_shelf b t s (Put text) ≡ None → Fits b s text.now
   put_fits text h = let p = first_none (reasons b t s (Put text)) h in record { short = omega (arith, ltb-false _ _ p.0); free = p.1.1.1.0 }
 
+  pub take_long : (x y : ℕ) → reason every_shelf b t s (Take x y) ≡ None → length (between x y b.build) ≡ y - x
+  take_long x y h =
+      let q = or_parts (ltb y x) (ltb (length b.build) y) (first_none (reasons b t s (Take x y)) h).0 in
+      length-between b.build x y (ltb-false _ _ q.1)
+
   pub take_fits : (x y : ℕ) → reason every_shelf b t s (Take x y) ≡ None → Fits b s (between x y b.build)
   take_fits x y h =
       let p = first_none (reasons b t s (Take x y)) h in
-      let q = or_parts (ltb y x) (ltb (length b.build) y) p.0 in
-      record { short = omega (arith, ltb-false _ _ p.1.0, length-between b.build x y (ltb-false _ _ q.1)); free = p.1.1.1.0 }
+      record { short = omega (arith, ltb-false _ _ p.1.0, take_long x y h); free = p.1.1.1.0 }
 
   pub cut_fits : (d x y : ℕ) → length (text_at s d) ≤ MOST_TEXT → reason every_shelf b t s (Cut d x y) ≡ None → Fits b s (between x y (text_at s d))
   cut_fits d x y short h =

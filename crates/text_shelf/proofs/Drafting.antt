@@ -19,7 +19,7 @@ use Rattle.shelf_view.specs.declared.draft_id.DraftId.{DraftId}
 use Rattle.refusal.proofs.Firsts.{first_none, first_not}
 use Rattle.rope.specs.Held.{held, Gains}
 use Rattle.text_shelf.specs.Shelves.{Parts, parts, shelved, brought, measures, strings}
-use Rattle.text_shelf.specs.Calls.{with_draft, accepted, need, DraftHeight, every_shelf, reasons}
+use Rattle.text_shelf.specs.Calls.{with_draft, accepted, need, HeightRule, every_shelf, reasons}
 use Rattle.text_shelf.specs.Steps.{reason_on}
 use Rattle.text_shelf.specs.Steps.{Does, Changed}
 use Rattle.text_shelf.specs.declared.call.Call.TheVariants.{Open, Add, Seal}
@@ -27,7 +27,7 @@ use Rattle.text_shelf.specs.declared.call.Answer.TheVariants.{Made, Opened, Done
 use Rattle.rope.specs.declared.lent.Lent.{Lent}
 use Rattle.text_shelf.specs.declared.shelf.Shelf.{Shelf}
 use Rattle.text_shelf.proofs.Staying.{spares_none, fine_root, all_fine_stays, texts_stay, heights_stay}
-use Rattle.text_shelf.proofs.Appending.{Firm, firm_of, count_texts, takes_grows, same_room, firm_after, strings_after, changed_after}
+use Rattle.text_shelf.proofs.Appending.{Firm, firm_of, count_texts, takes_grows, same_room, firm_after, strings_after, newest_after, changed_after}
 
 -- a shelf of which only the draft changes
 pub still : {V R : Type 0} {kind : _} (s : Parts V R kind) (d : Option Root) (o : ℕ)
@@ -82,8 +82,8 @@ module _ {V R : Type 0} {kind : _} (m : Model V R) (s : Shelf V R kind) (d : Dra
         spares = record { added = g.keeps.added; records = g.keeps.records; places = fills_none s.places.used s.places.memory.now };
         heights = λ k h. ap (λ hs. get_or (0 ∷ hs) k 0) (heights_stay s.store store g.keeps (held s.places) s.documents);
       } in
-      let higher : DraftHeight (Add d text) (measures (parts s)).draft (height_in store root) =
-      subst (λ h. DraftHeight (Add d text) h (height_in store root)) high up in
+      let higher : HeightRule (Add d text) (measures (parts s)) (measures longer_draft) =
+      subst (λ h. (h ≤ height_in store root) × (height_in store root ≤ max h 6 + 1)) high up in
       (refl, after, (changed, higher))
 
 module _ {V R : Type 0} {kind : _} (m : Model V R) (s : Shelf V R kind) (d : DraftId) (p : Root) (places : Lent Root MOST_PLACES)
@@ -103,7 +103,9 @@ module _ {V R : Type 0} {kind : _} (m : Model V R) (s : Shelf V R kind) (d : Dra
   seal_does k n =
       let after = strings_after (parts s) (firm_of s) s.store [] 0 grows places p (draft_text (strings (parts s))) pushes drafts.fine_root (sym drafts.text_is) in
       let changed = changed_after (parts s) (firm_of s) s.store [] 0 grows places p (draft_text (strings (parts s))) pushes drafts.fine_root (sym drafts.text_is) None in
-      (ap (λ j. Ok (Made j)) (n ∙ sym (count_texts (parts s))), ap (λ z. with_draft z None) after, (changed, refl))
+      let newest = newest_after (parts s) (firm_of s) s.store [] 0 grows places p (draft_text (strings (parts s))) pushes drafts.fine_root (sym drafts.text_is) None in
+      let high : height_in s.store p ≡ (measures (parts s)).draft = ap (height_of (arena_of s.store)) drafts.is in
+      (ap (λ j. Ok (Made j)) (n ∙ sym (count_texts (parts s))), ap (λ z. with_draft z None) after, (changed, (refl, newest ∙ high)))
 
 -- no draft is open, and one more can be counted
 pub none_open : (f : Root → List ℕ) (d : Option Root) (o : ℕ) → false ≡ is_some d → o < MOST_DRAFTS → first ((is_some (option_map f d) || leb MOST_DRAFTS o, DraftOpen) ∷ []) ≡ None

@@ -1,5 +1,5 @@
 -- Cut and splice, from what the trees tell.
-use Rattle.std.proofs.Common.{◌≡◌, ℕ, ◌+◌, ◌-◌, ◌≤◌, max, [], ◌∷◌, ◌++◌, length, get_or, take, drop, None, Option, sym, ap, ◌∙◌, subst, arith}
+use Rattle.std.proofs.Common.{◌≡◌, ℕ, ◌+◌, ◌-◌, ◌≤◌, max, [], ◌∷◌, ◌++◌, length, get_or, take, drop, None, Option, Ok, sym, refl, ap, ◌∙◌, subst, arith}
 use Rattle.std.specs.List.{between}
 use Rattle.refusal.specs.declared.limits.TheConstants.{MOST_PLACES, MOST_TEXT}
 use Rattle.monoid.specs.Monoid.{Model}
@@ -24,13 +24,14 @@ use Rattle.text_shelf.specs.Shelves.{Parts, parts, shelved, brought, measures, s
 use Rattle.text_shelf.specs.Spans.{Spans}
 use Rattle.text_shelf.specs.Calls.{every_shelf, memory, new_document, need}
 use Rattle.text_shelf.specs.Whys.{why}
-use Rattle.text_shelf.specs.Steps.{reason_on}
+use Rattle.text_shelf.specs.Steps.{Does, reason_on}
+use Rattle.text_shelf.specs.declared.call.Answer.TheVariants.{Made}
 use Rattle.text_shelf.specs.declared.call.Call.TheVariants.{Cut, Splice}
 use Rattle.rope.specs.Held.{Gains}
 use Rattle.rope.specs.declared.lent.Lent.{Lent}
 use Rattle.text_shelf.specs.declared.shelf.Shelf.{Shelf}
 use Rattle.text_shelf.proofs.Reasoning.{cut_decided, splice_decided, told_spliced}
-use Rattle.text_shelf.proofs.Appending.{Appends, Fits, append, takes_grows, cut_fits, splice_fits}
+use Rattle.text_shelf.proofs.Appending.{Appends, Fits, append, appended_does, takes_grows, cut_fits, splice_fits}
 
 -- the height of document d, as its door tells it
 pub high_told : {V R : Type 0} {kind : _} {m : Model V R} (v s : Shelved R) → v ≡ s → (d : ℕ) {w : Whole V R kind} → IsDocument m v d w
@@ -98,15 +99,22 @@ module _ {V R : Type 0} {kind : _} (m : Model V R) (s : Shelf V R kind) (store :
   module _ (d x y : ℕ) (p : Span) (span : Spans m (shelved (parts s)) d x y p) where
     pub cut_appends : reason_on every_shelf s (Cut d x y) ≡ None
         → CutRoot s.store store root p.root p.from p.to
-        → Appends (parts s) after (between x y (text_at (strings (parts s)) d)) [] (need (measures (parts s)) (Cut d x y))
+        → Appends (parts s) after (between x y (text_at (strings (parts s)) d)) [] (need (measures (parts s)) (Cut d x y)) (height_of (arena_of store) root)
     cut_appends none made =
         let takes = subst (λ n. Takes s.store store (edit_need n)) (sym span.lies.high) made.takes in
         append s store [] (need (measures (parts s)) (Cut d x y)) (takes_grows s.store store _ takes) places root (between x y (text_at (strings (parts s)) d)) pushes made.root
         (made.text_is ∙ (λ i. between (span.from_is i) (span.to_is i) (sym span.lies.text_is i))) (part_fits s d x y p span none)
 
+    pub cut_does : reason_on every_shelf s (Cut d x y) ≡ None → CutRoot s.store store root p.root p.from p.to → (k : ℕ) → k ≡ s.places.used + 1
+        → Does every_shelf s (Cut d x y) (Ok (Made k)) after
+    cut_does none made k n =
+        let a = cut_appends none made in
+        appended_does s (Cut d x y) k _ n refl refl a (a.draft, omega (arith, a.newest, made.low, span.lies.high))
+
     pub splice_appends : (e : ℕ) (q : Root) → Lies m (shelved (parts s)) e q → reason_on every_shelf s (Splice d x y e) ≡ None
         → SplicedRoot s.store store root p.root p.from p.to q (edit_need (higher s.store p.root q))
         → Appends (parts s) after (spliced (text_at (strings (parts s)) d) x y (text_at (strings (parts s)) e)) [] (need (measures (parts s)) (Splice d x y e))
+        (height_of (arena_of store) root)
     splice_appends e q lies none made =
         let high : higher s.store p.root q ≡ max (get_or (measures (parts s)).heights d 0) (get_or (measures (parts s)).heights e 0) = λ i. max (sym span.lies.high i) (sym lies.high i) in
         let takes = subst (λ n. Takes s.store store (edit_need n)) high made.takes in
@@ -114,3 +122,10 @@ module _ {V R : Type 0} {kind : _} (m : Model V R) (s : Shelf V R kind) (store :
         let back : drop p.to (text_in s.store p.root) ≡ drop y (text_at (strings (parts s)) d) = λ i. drop (span.to_is i) (sym span.lies.text_is i) in
         append s store [] (need (measures (parts s)) (Splice d x y e)) (takes_grows s.store store _ takes) places root (spliced (text_at (strings (parts s)) d) x y (text_at (strings (parts s)) e)) pushes made.root
         (made.text_is ∙ (λ i. front i ++ (sym lies.text_is i ++ back i))) (splice_fits (brought (parts s)) (measures (parts s)) (strings (parts s)) d x y e none)
+
+    pub splice_does : (e : ℕ) (q : Root) → Lies m (shelved (parts s)) e q → reason_on every_shelf s (Splice d x y e) ≡ None
+        → SplicedRoot s.store store root p.root p.from p.to q (edit_need (higher s.store p.root q)) → (k : ℕ) → k ≡ s.places.used + 1
+        → Does every_shelf s (Splice d x y e) (Ok (Made k)) after
+    splice_does e q lies none made k n =
+        let a = splice_appends e q lies none made in
+        appended_does s (Splice d x y e) k _ n refl refl a (a.draft, omega (arith, a.newest, made.low, span.lies.high, lies.high))

@@ -1,8 +1,9 @@
--- The calls that change a shelf: what each makes of the list of strings, what it needs, what becomes of the draft's height,
+-- The calls that change a shelf: what each makes of the list of strings, what it needs, what becomes of heights,
 -- and why it is refused.
 use Rattle.std.specs.Prelude.{◌≡◌, ℕ, ◌+◌, ◌-◌, ◌≤◌, max, Bool, ◌||◌, List, [], ◌∷◌, ◌++◌, length, is_some, Some, None, Option, nat_le, nat_lt, slice_index}
 use Rattle.std.specs.List.{between}
 use Rattle.rope.specs.Edits.{spliced}
+use Rattle.rope.specs.Steps.{Low}
 use Rattle.rope_cut.specs.Parts.{edit_need}
 use Rattle.rope_keep.specs.Kept.{text_need, add_need}
 use Rattle.refusal.specs.declared.limits.TheConstants.{MOST_BROUGHT, MOST_DRAFTS, MOST_TEXT}
@@ -78,18 +79,24 @@ brings (GiveUp d) = []
 
 -- HEIGHTS
 
--- how high the open draft is told before and after a call: a call that is about no draft leaves that; a draft that was
--- just opened is not high, and where one has ended there is none. Add joins a text of at most 4,096 bytes, which is at
--- most 6 high, and two texts joined are as high as the higher of them or one higher.
-abbrev pub DraftHeight : Call → ℕ → ℕ → Type 0
-DraftHeight (Put text) h k = k ≡ h
-DraftHeight (Take a b) h k = k ≡ h
-DraftHeight (Cut d a b) h k = k ≡ h
-DraftHeight (Splice d a b e) h k = k ≡ h
-DraftHeight Open h k = k ≡ 0
-DraftHeight (Add d text) h k = (h ≤ k) × (k ≤ max h 6 + 1)
-DraftHeight (Seal d) h k = k ≡ 0
-DraftHeight (GiveUp d) h k = k ≡ 0
+-- the height told of the document that a call has made: the first number that was not given before
+abbrev pub new_height : Measures → Measures → ℕ
+new_height t u = slice_index u.heights (length t.heights)
+
+-- What is told before a call, t, and after it, u. A new text is as low as its leaves allow, a part no higher than its document,
+-- a splice at most two higher than the higher of both, and a sealed draft as high as it was. A call that is about no draft
+-- leaves the draft's height; a draft that was just opened is not high, and where one has ended there is none. Add joins a
+-- text of at most 4,096 bytes, which is at most 6 high, and two texts joined are as high as the higher of them or one higher.
+abbrev pub HeightRule : Call → Measures → Measures → Type 0
+HeightRule (Put text) t u = (u.draft ≡ t.draft) × Low (length text.now) (new_height t u)
+HeightRule (Take a b) t u = (u.draft ≡ t.draft) × Low (b - a) (new_height t u)
+HeightRule (Cut d a b) t u = (u.draft ≡ t.draft) × (new_height t u ≤ slice_index t.heights d)
+HeightRule (Splice d a b e) t u =
+    (u.draft ≡ t.draft) × (new_height t u ≤ max (slice_index t.heights d) (slice_index t.heights e) + 2)
+HeightRule Open t u = u.draft ≡ 0
+HeightRule (Add d text) t u = (t.draft ≤ u.draft) × (u.draft ≤ max t.draft 6 + 1)
+HeightRule (Seal d) t u = (u.draft ≡ 0) × (new_height t u ≡ t.draft)
+HeightRule (GiveUp d) t u = u.draft ≡ 0
 
 -- REFUSALS
 
@@ -147,4 +154,4 @@ reasons b t s (GiveUp d) = (strange s b.mark d, StrangeDraft) ∷ []
 
 -- the rules of the calls of every shelf
 abbrev pub every_shelf : Rules Call
-every_shelf = record { reasons = reasons; accepted = accepted; answer = answer; need = need; brings = brings; draft_height = DraftHeight }
+every_shelf = record { reasons = reasons; accepted = accepted; answer = answer; need = need; brings = brings; height_rule = HeightRule }

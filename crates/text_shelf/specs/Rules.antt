@@ -15,8 +15,8 @@ pub record Rules (C : Type 0) : Type 1 where
   -- the records that it may take, and the text that it writes behind the added text
   pub need : Measures → C → ℕ
   pub brings : C → List ℕ
-  -- how high the open draft is told before it and after it
-  pub draft_height : C → ℕ → ℕ → Type 0
+  -- what is told before it and after it of the heights of the open draft and of a document that it makes
+  pub height_rule : C → Measures → Measures → Type 0
 
 -- the first of them that holds, which is the refusal that the call answers; or none
 abbrev pub reason : {C : Type 0} → Rules C → Brought → Measures → State → C → Option Refusal

@@ -33,7 +33,7 @@ Does r s call a t =
     (a ≡ Ok (r.answer s.mark (strings (parts s)) call))
     × (strings t ≡ r.accepted s.store.build.now call (strings (parts s)))
     × (Changed (parts s) t (r.brings call) (r.need (measures (parts s)) call)
-    × r.draft_height call (measures (parts s)).draft (measures t).draft)
+    × r.height_rule call (measures (parts s)) (measures t))
 
 -- what a call does, by the reason to refuse it: it answers that refusal, and the whole shelf with all its memory is as
 -- it was; or, where there is none, it answers and leaves what the list of strings says

@@ -1,8 +1,7 @@
-use Rattle.std.proofs.Common.{refl, arith}
+use Rattle.std.proofs.Common.{arith}
 use Rattle.text_shelf.specs.Shelves.{parts}
-use Rattle.text_shelf.specs.declared.call.Call.TheVariants.{Cut}
-use Rattle.text_shelf.proofs.Appending.{appended_does, ghosts, unspent}
-use Rattle.text_shelf.proofs.Editing.{part_fits, cut_appends}
+use Rattle.text_shelf.proofs.Appending.{ghosts, unspent}
+use Rattle.text_shelf.proofs.Editing.{part_fits, cut_appends, cut_does}
 use Rattle.text_shelf.proofs.shelf.Shelf.cut.Goals as goal
 
 pub push-requires : goal.push-requires
@@ -22,6 +21,5 @@ returns g c =
     let part = c.in_ok-part.ensures in
     let push = c.push.ensures.gains in
     rw part.0
-    (appended_does c.args.self.now (Cut c.args.d c.args.from c.args.to) _ _ c.push.ensures.value refl refl (λ h j e. e)
-    (cut_appends g.M.Monoid.model c.args.self.now c.cut-root.new.store c.push.new.self c.cut-root.result
-    push c.args.d c.args.from c.args.to c.in_ok-part.part part.1 part.0 c.cut-root.ensures))
+    (cut_does g.M.Monoid.model c.args.self.now c.cut-root.new.store c.push.new.self c.cut-root.result
+    push c.args.d c.args.from c.args.to c.in_ok-part.part part.1 part.0 c.cut-root.ensures c.push.result c.push.ensures.value)

@@ -1,4 +1,5 @@
-use Rattle.std.proofs.Common.{refl, arith}
+use Rattle.std.proofs.Common.{length, refl, sym, subst, arith}
+use Rattle.rope.specs.Steps.{Low}
 use Rattle.text_shelf.specs.Shelves.{parts, brought, measures, strings}
 use Rattle.text_shelf.specs.declared.call.Call.TheVariants.{Put}
 use Rattle.text_shelf.proofs.Appending.{append, appended_does, ghosts, unspent, put_fits}
@@ -24,8 +25,10 @@ returns g c =
     let made = c.keep-root.ensures in
     let push = c.push.ensures.gains in
     let none = c.in_ok-check_put.ensures.0 in
-    rw none
-    (appended_does c.args.self.now (Put c.args.text) c.push.result c.args.text.now c.push.ensures.value refl refl (λ h j e. e)
-    (append c.args.self.now c.keep-root.new.store c.args.text.now _ made.grows c.push.new.self c.keep-root.result c.args.text.now
+    let a =
+    append c.args.self.now c.keep-root.new.store c.args.text.now _ made.grows c.push.new.self c.keep-root.result c.args.text.now
     push made.stands.root made.stands.text_is
-    (put_fits (brought s) (measures s) (strings s) c.args.text none)))
+    (put_fits (brought s) (measures s) (strings s) c.args.text none) in
+    rw none
+    (appended_does c.args.self.now (Put c.args.text) c.push.result c.args.text.now c.push.ensures.value refl refl a
+    (a.draft, subst (Low (length c.args.text.now)) (sym a.newest) made.stands.low))

@@ -1,8 +1,7 @@
-use Rattle.std.proofs.Common.{refl, arith}
+use Rattle.std.proofs.Common.{arith}
 use Rattle.text_shelf.specs.Shelves.{parts, brought, measures, strings}
-use Rattle.text_shelf.specs.declared.call.Call.TheVariants.{Splice}
-use Rattle.text_shelf.proofs.Appending.{appended_does, ghosts, unspent, splice_fits}
-use Rattle.text_shelf.proofs.Editing.{splice_appends}
+use Rattle.text_shelf.proofs.Appending.{ghosts, unspent, splice_fits}
+use Rattle.text_shelf.proofs.Editing.{splice_appends, splice_does}
 use Rattle.text_shelf.proofs.shelf.Shelf.splice.Goals as goal
 
 pub push-requires : goal.push-requires
@@ -23,7 +22,6 @@ returns g c =
     let both = c.in_ok-part.ensures in
     let push = c.push.ensures.gains in
     rw both.0
-    (appended_does c.args.self.now (Splice c.args.d c.args.from c.args.to c.args.other) _ _ c.push.ensures.value refl refl (λ h j e. e)
-    (splice_appends g.M.Monoid.model c.args.self.now c.splice-root.new.store c.push.new.self c.splice-root.result
+    (splice_does g.M.Monoid.model c.args.self.now c.splice-root.new.store c.push.new.self c.splice-root.result
     push c.args.d c.args.from c.args.to c.in_ok-part.part both.1.0
-    c.args.other c.in_ok-part.more both.1.1 both.0 c.splice-root.ensures))
+    c.args.other c.in_ok-part.more both.1.1 both.0 c.splice-root.ensures c.push.result c.push.ensures.value)

@@ -1,8 +1,10 @@
-use Rattle.std.proofs.Common.{[], refl, arith}
+use Rattle.std.proofs.Common.{◌-◌, [], refl, sym, subst, arith}
+use Rattle.rope.specs.Steps.{Low}
+use Rattle.rope_cut.specs.Parts.{height_in}
 use Rattle.std.specs.List.{between}
 use Rattle.text_shelf.specs.Shelves.{parts, brought, measures, strings}
 use Rattle.text_shelf.specs.declared.call.Call.TheVariants.{Take}
-use Rattle.text_shelf.proofs.Appending.{append, appended_does, takes_grows, ghosts, unspent, take_fits}
+use Rattle.text_shelf.proofs.Appending.{append, appended_does, takes_grows, ghosts, unspent, take_long, take_fits}
 use Rattle.text_shelf.proofs.shelf.Shelf.take.Goals as goal
 
 pub push-requires : goal.push-requires
@@ -27,8 +29,13 @@ returns g c =
     let text = between c.args.from c.args.to c.args.self.now.store.build.now in
     let push = c.push.ensures.gains in
     let none = c.in_ok-check_take.ensures.0 in
-    rw none
-    (appended_does c.args.self.now (Take c.args.from c.args.to) c.push.result text c.push.ensures.value refl refl (λ h j e. e)
-    (append c.args.self.now c.take_part-root.new.store [] _ (takes_grows c.args.self.now.store c.take_part-root.new.store _ made.takes) c.push.new.self c.take_part-root.result text
+    let a =
+    append c.args.self.now c.take_part-root.new.store [] _ (takes_grows c.args.self.now.store c.take_part-root.new.store _ made.takes) c.push.new.self c.take_part-root.result text
     push made.stands.root made.stands.text_is
-    (take_fits (brought s) (measures s) (strings s) c.args.from c.args.to none)))
+    (take_fits (brought s) (measures s) (strings s) c.args.from c.args.to none) in
+    let low =
+    subst (λ n. Low n (height_in c.take_part-root.new.store c.take_part-root.result)) (take_long (brought s) (measures s) (strings s) c.args.from c.args.to none)
+    made.stands.low in
+    rw none
+    (appended_does c.args.self.now (Take c.args.from c.args.to) c.push.result text c.push.ensures.value refl refl a
+    (a.draft, subst (Low (c.args.to - c.args.from)) (sym a.newest) low))
