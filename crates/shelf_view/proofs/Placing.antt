@@ -1,7 +1,7 @@
 -- The roots of documents and of the draft.
 use Rattle.std.proofs.Common.{◌≡◌, ℕ, zero, suc, ◌<◌, ◌≤◌, true, false, leb, ltb, List, ◌∷◌, [], length, get_or, Some, None, Option, Bor, sym, ap, ◌∙◌, arith}
 use Rattle.std.specs.Option.{IfSome, is_some, ok_or, option_copied}
-use Rattle.std.proofs.lemmas.List.{get_or-map, length-map}
+use Rattle.std.proofs.lemmas.List.{get_or-map, get_or_default, length-map}
 use Rattle.std.proofs.lemmas.Bool.{and_parts, leb-true}
 use Rattle.std.proofs.lemmas.Bool.Decides.{nat_tests}
 use Rattle.refusal.specs.declared.limits.TheConstants.{MOST_TEXT}
@@ -32,6 +32,7 @@ short_of a p h = leb-true _ _ (and_parts (rooted (length a.records) p) (leb (len
 module _ {V R : Type 0} (m : Model V R) (s : Shelved R) where
   lies_at : (i : ℕ) (p : Root) → i < length s.roots → p ≡ get_or s.roots i p → all_fine s.arena s.roots ≡ true → Lies m s (suc i) p
   lies_at i p h is all = record {
+    is = is ∙ get_or_default s.roots i p None h;
     fine_root = ap (fine s.arena) is ∙ fine_at s.arena s.roots i p all h;
     text_is = get_or-map (text_of s.arena) s.roots i p [] h ∙ ap (text_of s.arena) (sym is);
     high = get_or-map (height_of s.arena) s.roots i p 0 h ∙ ap (height_of s.arena) (sym is);

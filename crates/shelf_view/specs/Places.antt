@@ -1,5 +1,5 @@
 -- Where a document lies, and what its door gives.
-use Rattle.std.specs.Prelude.{◌≡◌, ℕ, true, slice_index_or}
+use Rattle.std.specs.Prelude.{◌≡◌, ℕ, true, ◌∷◌, None, slice_index_or}
 use Rattle.monoid.specs.Monoid.{Model}
 use Rattle.rope.specs.Arena.{Root, text_of, height_of, kept_of}
 use Rattle.rope.specs.Memory.{seen}
@@ -9,8 +9,9 @@ use Rattle.rope_read.specs.declared.whole.Whole.{Whole}
 use Rattle.shelf_view.specs.Documents.{fine, root_in}
 use Rattle.shelf_view.specs.State.{Shelved, state_of, heights_of, kept_values, text_at, part_at, draft_text}
 
--- p is the root of document d
+-- p is the root of document d; document 0 has none. So text, height and kept value of p are the document's.
 pub record Lies {V R : Type 0} (m : Model V R) (s : Shelved R) (d : ℕ) (p : Root) : Type 0 where
+  pub is : p ≡ slice_index_or (None ∷ s.roots) d None
   pub fine_root : fine s.arena p ≡ true
   pub text_is : text_at (state_of s) d ≡ text_of s.arena p
   pub high : slice_index_or (heights_of s) d 0 ≡ height_of s.arena p
