@@ -11,7 +11,7 @@ use Rattle.rope.specs.Arena.{Root}
 use Rattle.rope.specs.declared.store.Store.{Store}
 use Rattle.rope.proofs.Keeping.{keeps_tree, takes_none, takes_trans, takes_within, free_after}
 use Rattle.rope.specs.Edits.{spliced}
-use Rattle.rope_cut.specs.Parts.{Rooted, Makes, Spliceable, text_in, height_in, higher, part_cost, join_cost_in, splice_cost, edit_need}
+use Rattle.rope_cut.specs.Parts.{Rooted, Makes, Spliceable, text_in, height_in, higher, part_cost, join_cost_in, splice_cost, edit_need, CutRoot, cut_cost}
 
 -- a root stays one, with its text and its height
 pub record Stays {V R : Type 0} {kind : _} (s s' : Store V R kind) (p : Root) : Type 0 where
@@ -37,10 +37,10 @@ back_none s p a h =
 pub cut_done : {V R : Type 0} {kind : _} {s s1 s2 : Store V R kind} {q r : Root} (p : Root) (a b : ℕ)
     → Makes s s1 q (take b (text_in s p)) (part_cost (height_in s p) (height_in s1 q)) (height_in s p)
     → Makes s1 s2 r (drop a (text_in s1 q)) (part_cost (height_in s1 q) (height_in s2 r)) (height_in s1 q)
-    → Makes s s2 r (between a b (text_in s p)) (edit_need (height_in s p)) (height_in s p)
+    → CutRoot s s2 r p a b
 cut_done {s} p a b x y =
     record {
-      takes = takes_within (edit_need (height_in s p)) (omega (arith, x.low, y.low)) (takes_trans x.takes y.takes);
+      takes = takes_within (cut_cost (height_in s p)) (omega (arith, x.low, y.low)) (takes_trans x.takes y.takes);
       root = y.root;
       text_is = y.text_is ∙ ap (drop a) x.text_is ∙ sym (between_is (text_in s p) a b);
       low = omega (arith, x.low, y.low);

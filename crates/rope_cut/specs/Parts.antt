@@ -65,9 +65,13 @@ pub record JoinedRoots {V R : Type 0} {kind : _} (s s' : Store V R kind) (r p q 
 abbrev pub edit_need : ℕ → ℕ
 edit_need h = 32 * (h + 1)
 
--- r is a root of the part a to b of the text at p, and no higher, for the need of an edit
+-- the records that a cut of a text that is h high may take
+abbrev pub cut_cost : ℕ → ℕ
+cut_cost h = 8 * h + 2
+
+-- r is a root of the part a to b of the text at p, and no higher, for the cost of a cut
 abbrev pub CutRoot : {V R : Type 0} {kind : _} → Store V R kind → Store V R kind → Root → Root → ℕ → ℕ → Type 0
-CutRoot s s' r p a b = Makes s s' r (between a b (text_in s p)) (edit_need (height_in s p)) (height_in s p)
+CutRoot s s' r p a b = Makes s s' r (between a b (text_in s p)) (cut_cost (height_in s p)) (height_in s p)
 
 -- the records that a splice of texts that are at most h high may take, where the text that it makes is k high
 abbrev pub splice_cost : ℕ → ℕ → ℕ

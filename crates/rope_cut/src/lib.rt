@@ -188,7 +188,7 @@ pub fn splice<'b, 'a, M: Monoid>(
     requires part { (a ≤ b) × (b ≤ length (text_in store.old root)) }
     requires short { length (text_in store.old root) - (b - a) + length (text_in store.old other) < 2 ^ 32 }
     requires free { Free store.old (edit_need (higher store.old root other)) }
-    ensures { SplicedRoot store.old store.new result root a b other (edit_need (higher store.old root other)) }
+    ensures { SplicedRoot store.old store.new result root a b other (splice_cost (higher store.old root other) (height_in store.new result)) }
 {
     match root {
         Some(i) => splice_at(store, i, a, b, other),

@@ -9,11 +9,13 @@ use Rattle.refusal.specs.declared.Refusal.TheVariants.{NoDocument}
 use Rattle.text_shelf.specs.Shelves.{Fresh, parts, strings}
 use Rattle.text_shelf.specs.Calls.{every_shelf}
 use Rattle.text_shelf.specs.Steps.{reason_on}
-use Rattle.text_shelf.specs.Reaches.{Reached, fresh, called, used_of}
+use Rattle.text_shelf.specs.Reaches.{Reached, fresh, called, used_of, Untouched}
 use Rattle.text_shelf.specs.Steps.{Stepped, Steps, made, Back}
 use Rattle.text_shelf.specs.declared.draft.Draft.{Draft}
 use Rattle.shelf_promise.specs.Hands.{IsOwn}
 use Rattle.text_shelf.proofs.Appending.{count_texts}
+use Rattle.text_shelf.proofs.Reaching.{spares_step, fresh_untouched}
+use Rattle.text_shelf.proofs.Staying.{spares_none}
 use Rattle.text_shelf.specs.declared.call.Call.TheVariants.{Open, Add, Put, Cut, Seal}
 use Rattle.text_shelf.specs.declared.call.Answer.{Answer}
 use Rattle.text_shelf.specs.declared.call.Answer.TheVariants.{Opened}
@@ -32,6 +34,16 @@ module _ {V R : Type 0} {kind : _} (build added : List ℕ) (records : List (Rec
       let r3 : Reached every_shelf (used_of build added records places mark) (Open ∷ (Add d text ∷ (Put text ∷ []))) (Ok (Opened d) ∷ (x ∷ (y ∷ []))) p = called r2 (Put text) y sp in
       let r4 : Reached every_shelf (used_of build added records places mark) (Open ∷ (Add d text ∷ (Put text ∷ (Cut 4294967295 0 0 ∷ [])))) (Ok (Opened d) ∷ (x ∷ (y ∷ (z ∷ [])))) c = called r3 (Cut 4294967295 0 0) z sc in
       called r4 (Seal d) w se
+
+  pub five_untouched : (s o a p c e : Shelf V R kind) → Fresh (parts s) build added records places mark → (d : DraftId) (text : Bor (List ℕ)) (x y z w v : Result Answer Refusal)
+      → Steps s Open x o → Steps o (Add d text) y a → Steps a (Put text) z p → Steps p (Cut 4294967295 0 0) w c → Steps c (Seal d) v e
+      → Untouched (parts e) added records places
+  five_untouched s o a p c e f d text x y z w v so sa sp sc se =
+      let s1 = spares_step every_shelf (parts s) s o Open x so (spares_none (parts s)) in
+      let s2 = spares_step every_shelf (parts s) o a (Add d text) y sa s1 in
+      let s3 = spares_step every_shelf (parts s) a p (Put text) z sp s2 in
+      let s4 = spares_step every_shelf (parts s) p c (Cut 4294967295 0 0) w sc s3 in
+      fresh_untouched s build added records places mark f (parts e) (spares_step every_shelf (parts s) c e (Seal d) v se s4)
 
 refused_made : (r : Result ℕ Refusal) → made r ≡ Err NoDocument → r ≡ Err NoDocument
 refused_made (Ok n) h = absurd (cc)

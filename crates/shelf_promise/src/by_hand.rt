@@ -1,7 +1,8 @@
 //! Calls made one by one, with the tokens that they hand out, and what that promises: an example.
 ghost use Rattle.std.specs.Prelude.{◌≡◌, Err};
 ghost use Rattle.refusal.specs.declared.Refusal.TheVariants.{NoDocument};
-ghost use Rattle.text_shelf.specs.Reaches.{used_of};
+ghost use Rattle.text_shelf.specs.Reaches.{used_of, Untouched};
+ghost use Rattle.text_shelf.specs.Shelves.{parts};
 ghost use Rattle.shelf_promise.specs.Hands.{ReachedBy, IsOwn};
 
 use monoid::Monoid;
@@ -23,7 +24,7 @@ pub struct Made<'b, 'a, M: Monoid> {
 
 /// Opens a draft on a fresh shelf, adds `text` to it, puts `text`, cuts from a document that is not there, and seals the
 /// draft. The shelf is one that this list of calls has reached, as the contract of each call says; so all that is told of
-/// reached shelves is told of it. Takes time in the length of `text`.
+/// reached shelves is told of it. Of the memory, what is not used is as it was brought. Takes time in the length of `text`.
 pub fn by_hand<'b, 'a, M: Monoid>(
     build: &'b [u8],
     added: &'a mut [u8],
@@ -33,6 +34,7 @@ pub fn by_hand<'b, 'a, M: Monoid>(
     text: &[u8],
 ) -> Made<'b, 'a, M>
     ensures reached { ReachedBy (used_of build.now added.old records.old places.old mark) text.entry result }
+    ensures untouched { Untouched (parts result.shelf) added.old records.old places.old }
     ensures refused { result.cut ≡ Err NoDocument }
     ensures back { IsOwn result.opened result.sealed }
 {

@@ -6,8 +6,9 @@ use Rattle.monoid.specs.Monoid.{Model}
 use Rattle.rope.specs.Memory.{arena_of, Takes, seen}
 use Rattle.rope.specs.Arena.{Root, height_of}
 use Rattle.rope.specs.declared.store.Store.{Store}
+use Rattle.rope.proofs.Keeping.{takes_within}
 use Rattle.rope.specs.Edits.{spliced}
-use Rattle.rope_cut.specs.Parts.{CutRoot, SplicedRoot, edit_need, text_in, higher}
+use Rattle.rope_cut.specs.Parts.{CutRoot, SplicedRoot, splice_cost, edit_need, text_in, height_in, higher}
 use Rattle.shelf_view.specs.State.{Shelved, state_of, heights_of, text_at}
 use Rattle.shelf_view.specs.Questions.{of_document, of_part}
 use Rattle.std.proofs.lemmas.List.Edits.{length-between}
@@ -101,7 +102,7 @@ module _ {V R : Type 0} {kind : _} (m : Model V R) (s : Shelf V R kind) (store :
         → CutRoot s.store store root p.root p.from p.to
         → Appends (parts s) after (between x y (text_at (strings (parts s)) d)) [] (need (measures (parts s)) (Cut d x y)) (height_of (arena_of store) root)
     cut_appends none made =
-        let takes = subst (λ n. Takes s.store store (edit_need n)) (sym span.lies.high) made.takes in
+        let takes = takes_within (need (measures (parts s)) (Cut d x y)) (omega (arith, span.lies.high)) made.takes in
         append s store [] (need (measures (parts s)) (Cut d x y)) (takes_grows s.store store _ takes) places root (between x y (text_at (strings (parts s)) d)) pushes made.root
         (made.text_is ∙ (λ i. between (span.from_is i) (span.to_is i) (sym span.lies.text_is i))) (part_fits s d x y p span none)
 
@@ -112,19 +113,19 @@ module _ {V R : Type 0} {kind : _} (m : Model V R) (s : Shelf V R kind) (store :
         appended_does s (Cut d x y) k _ n refl refl a (a.draft, omega (arith, a.newest, made.low, span.lies.high))
 
     pub splice_appends : (e : ℕ) (q : Root) → Lies m (shelved (parts s)) e q → reason_on every_shelf s (Splice d x y e) ≡ None
-        → SplicedRoot s.store store root p.root p.from p.to q (edit_need (higher s.store p.root q))
+        → SplicedRoot s.store store root p.root p.from p.to q (splice_cost (higher s.store p.root q) (height_in store root))
         → Appends (parts s) after (spliced (text_at (strings (parts s)) d) x y (text_at (strings (parts s)) e)) [] (need (measures (parts s)) (Splice d x y e))
         (height_of (arena_of store) root)
     splice_appends e q lies none made =
         let high : higher s.store p.root q ≡ max (get_or (measures (parts s)).heights d 0) (get_or (measures (parts s)).heights e 0) = λ i. max (sym span.lies.high i) (sym lies.high i) in
-        let takes = subst (λ n. Takes s.store store (edit_need n)) high made.takes in
+        let takes = takes_within (need (measures (parts s)) (Splice d x y e)) (omega (arith, high, made.low)) made.takes in
         let front : take p.from (text_in s.store p.root) ≡ take x (text_at (strings (parts s)) d) = λ i. take (span.from_is i) (sym span.lies.text_is i) in
         let back : drop p.to (text_in s.store p.root) ≡ drop y (text_at (strings (parts s)) d) = λ i. drop (span.to_is i) (sym span.lies.text_is i) in
         append s store [] (need (measures (parts s)) (Splice d x y e)) (takes_grows s.store store _ takes) places root (spliced (text_at (strings (parts s)) d) x y (text_at (strings (parts s)) e)) pushes made.root
         (made.text_is ∙ (λ i. front i ++ (sym lies.text_is i ++ back i))) (splice_fits (brought (parts s)) (measures (parts s)) (strings (parts s)) d x y e none)
 
     pub splice_does : (e : ℕ) (q : Root) → Lies m (shelved (parts s)) e q → reason_on every_shelf s (Splice d x y e) ≡ None
-        → SplicedRoot s.store store root p.root p.from p.to q (edit_need (higher s.store p.root q)) → (k : ℕ) → k ≡ s.places.used + 1
+        → SplicedRoot s.store store root p.root p.from p.to q (splice_cost (higher s.store p.root q) (height_in store root)) → (k : ℕ) → k ≡ s.places.used + 1
         → Does every_shelf s (Splice d x y e) (Ok (Made k)) after
     splice_does e q lies none made k n =
         let a = splice_appends e q lies none made in
