@@ -68,7 +68,7 @@ vault_answer vault_read_back(const uint8_t *text, size_t text_len, size_t from, 
  * Runs a script (docs/SCRIPTS.md) on a fresh marked shelf with 1,024 records, 16,384 bytes for added text, 64 places and
  * an empty build text, call by call while at least 4,102 bytes are left in out. The answers stand one behind the other.
  * next is the script's length where every call was run. A run that was cut short is not resumed: run the script again,
- * with more room; it answers the same, and more.
+ * with more room.
  * Uses less than 100 KiB of stack. Refused with 7 and 8 (out_len is below 4,102).
  */
 vault_run vault_run_script(const uint8_t *script, size_t script_len, uint8_t *out, size_t out_len);

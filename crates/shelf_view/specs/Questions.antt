@@ -1,4 +1,4 @@
--- What each question answers, and why it is refused.
+-- Why each question is refused.
 use Rattle.std.specs.Prelude.{ℕ, ◌+◌, ◌||◌, [], ◌∷◌, Option, nat_lt}
 use Rattle.refusal.specs.Refusals.{first}
 use Rattle.rope_read.specs.Texts.{bad_part}
