@@ -3,7 +3,6 @@ use Rattle.std.proofs.Common.{◌≡◌, ℕ, ◌+◌, ◌-◌, ◌*◌, ◌^◌
 use Rattle.std.proofs.lemmas.List.{length-take-le, drop_all}
 use Rattle.std.proofs.lemmas.Slice.{between_is}
 use Rattle.std.proofs.lemmas.Bool.{ltb-true, lt-ltb}
-use Rattle.std.specs.List.{between}
 use Rattle.rope.specs.Tree.{text, height}
 use Rattle.rope.specs.Arena.{rooted}
 use Rattle.rope.specs.Memory.{Keeps, Free, Takes}

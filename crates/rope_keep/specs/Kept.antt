@@ -1,5 +1,5 @@
 -- What it takes to keep a text, and what it gives.
-use Rattle.std.specs.Prelude.{◌≡◌, ℕ, ◌+◌, ◌-◌, ◌*◌, ◌^◌, ◌<◌, ◌≤◌, true, List, ◌++◌, length}
+use Rattle.std.specs.Prelude.{◌≡◌, ℕ, ◌+◌, ◌*◌, ◌≤◌, true, List, ◌++◌, length}
 use Rattle.refusal.specs.declared.limits.TheConstants.{MOST_BROUGHT}
 use Rattle.rope.specs.Arena.{rooted}
 use Rattle.rope.specs.Memory.{arena_of, Keeps}

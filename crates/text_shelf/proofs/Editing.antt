@@ -3,7 +3,7 @@ use Rattle.std.proofs.Common.{◌≡◌, ℕ, ◌+◌, ◌-◌, ◌≤◌, max, 
 use Rattle.std.specs.List.{between}
 use Rattle.refusal.specs.declared.limits.TheConstants.{MOST_PLACES, MOST_TEXT}
 use Rattle.monoid.specs.Monoid.{Model}
-use Rattle.rope.specs.Memory.{arena_of, Takes, seen}
+use Rattle.rope.specs.Memory.{arena_of, seen}
 use Rattle.rope.specs.Arena.{Root, height_of}
 use Rattle.rope.specs.declared.store.Store.{Store}
 use Rattle.rope.proofs.Keeping.{takes_within}

@@ -17,7 +17,7 @@ bytes_of e = digits_in 256 e.a 4 ++ (digits_in 256 e.b 4 ++ (digits_in 256 e.c 4
 abbrev pub entries_of : List ℕ → Entries
 entries_of bs =
     matrix (number_from_digits 256 (take 4 bs)) (number_from_digits 256 (take 4 (drop 4 bs)))
-        (number_from_digits 256 (take 4 (drop 8 bs))) (number_from_digits 256 (take 4 (drop 12 bs)))
+    (number_from_digits 256 (take 4 (drop 8 bs))) (number_from_digits 256 (take 4 (drop 12 bs)))
 
 -- the digits 0 to 9 and a to f
 abbrev pub hex_digit : ℕ → ℕ
