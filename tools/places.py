@@ -1,10 +1,9 @@
 #!/usr/bin/env python3
-"""Lists the places in crates/*/src that older forms of Rattle may have left, by the points of docs/DESIGN-PASS.md.
+"""Lists the places in crates/*/src that older forms of Rattle may have left.
 
     python3 tools/places.py [COMMIT]
 
-A commit is read with git; with none, the files as they stand. It goes by text, so it finds candidates: what each one is,
-and why a place stays, is said in docs/DESIGN-PASS.md.
+A commit is read with git; with none, the files as they stand. It goes by text, so it finds candidates.
 """
 import collections
 import glob

@@ -1,3 +1,5 @@
+//! Fingerprints as values: read, written and compared.
+
 use std::fmt;
 use std::str::FromStr;
 

@@ -1,3 +1,5 @@
+//! Why the library refuses a call.
+
 use std::error::Error;
 use std::fmt;
 

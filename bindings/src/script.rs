@@ -1,3 +1,5 @@
+//! Running a whole script, with as much room as its answers need.
+
 use crate::{Refusal, buffer};
 
 /// Enough for the answers of most scripts.

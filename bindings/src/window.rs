@@ -1,3 +1,5 @@
+//! Windows that read-back tells.
+
 use std::fmt;
 use std::ops::{Deref, Range};
 

@@ -1,3 +1,5 @@
+//! Fingerprints against the second implementation.
+
 use vault::{Fingerprint, Refusal, buffer};
 
 use crate::cases::{Cases, Random};

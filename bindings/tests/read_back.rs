@@ -1,3 +1,5 @@
+//! Read-back against the second implementation.
+
 use vault::{Fingerprint, Refusal, buffer};
 
 use crate::cases::{Cases, Random};

@@ -1,3 +1,5 @@
+//! Scripts against the second implementation.
+
 use std::thread;
 
 use vault::buffer;

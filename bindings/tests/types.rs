@@ -1,3 +1,5 @@
+//! What the types of the package print and convert.
+
 use std::error::Error;
 
 use vault::{Fingerprint, Refusal, read_back};

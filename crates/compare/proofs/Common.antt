@@ -1,4 +1,5 @@
 -- What two texts have in common at their ends is the same in both.
+use Rattle.rope.specs.Edits.{spliced}
 use Rattle.std.proofs.Common.{◌≡◌, ℕ, ◌+◌, ◌-◌, ◌≤◌, ◌==◌, cond, Bool, true, false, List, [], ◌∷◌, ◌++◌, reverse, length, take, drop, refl, sym, ap, ◌∙◌, subst, arith}
 use Rattle.std.specs.List.{take_while, zip, between}
 use Rattle.std.proofs.Math.Seq.{take-append_seam}
@@ -51,7 +52,7 @@ rest a from to k e h =
 -- with the part between in the place of the old one, the old text is the new one
 pub replaced : (old new : List ℕ) (from to upto : ℕ) → from ≡ front_of old new
     → to + back_of (drop from old) (drop from new) ≡ length old → upto + back_of (drop from old) (drop from new) ≡ length new → from ≤ to → from ≤ upto
-    → new ≡ take from old ++ (between from upto new ++ drop to old)
+    → new ≡ spliced old from to (between from upto new)
 replaced old new from to upto first o n h k =
     let back = back_of (drop from old) (drop from new) in
     let front : take from new ≡ take from old = ap (λ i. take i new) first ∙ sym (front_same old new) ∙ ap (λ i. take i old) (sym first) in

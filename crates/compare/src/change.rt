@@ -80,7 +80,7 @@ fn line_behind(text: &[u8]) -> usize
 
 /// The whole lines that a part of the text touches, but for the last newline.
 #[tactic(auto, using(crate::proofs::Runs::before_le, crate::proofs::Runs::behind_le))]
-pub fn lines_of(text: &[u8], part: Part) -> Part
+pub(crate) fn lines_of(text: &[u8], part: Part) -> Part
     requires ordered { part.from ≤ part.to }
     requires within { part.to ≤ length text.now }
     ensures { Lines text.now part result }

@@ -25,7 +25,7 @@ fn touched<'t>(heap: Global, text: &'t [u8], part: Part) -> Result<Vec<&'t [u8]>
 }
 
 /// Writes the lines that the change touches, those of the old text to the left.
-pub fn write_lines<W: Write>(
+pub(crate) fn write_lines<W: Write>(
     heap: Global,
     old: &[u8],
     new: &[u8],

@@ -37,7 +37,7 @@ fn read_some<'t, R: Read>(input: &mut R, buffer: &'t mut [u8]) -> io::Result<&'t
 }
 
 impl Stream {
-    /// No text yet.
+    /// No text yet. Takes constant time.
     pub fn new() -> Stream
         ensures { Sums result [] }
     {
@@ -47,7 +47,7 @@ impl Stream {
         }
     }
 
-    /// One chunk more.
+    /// One chunk more. Takes time in its length.
     pub fn add(&mut self, chunk: &[u8])
         ensures { (text : List ℕ) → Sums self.old text → Sums self.new (text ++ chunk.now) }
     {
@@ -81,18 +81,21 @@ impl Stream {
         Err(io::Error::from(ErrorKind::TimedOut))
     }
 
+    /// The fingerprint of the text so far. Takes constant time.
     pub fn fingerprint(&self) -> Sl2
         ensures { result ≡ self.now.summary.first }
     {
         self.summary.first
     }
 
+    /// Its lines and columns. Takes constant time.
     pub fn position(&self) -> LineColumn
         ensures { result ≡ self.now.summary.second }
     {
         self.summary.second
     }
 
+    /// How many bytes it has, up to 2^64 − 1. Takes constant time.
     pub fn bytes(&self) -> u64
         ensures { result ≡ self.now.bytes }
     {

@@ -1,5 +1,5 @@
 //! The promise, whole, on one call.
-use crate::figures::{DIGITS_1, DIGITS_3, DIGITS_4, DIGITS_6, DIGITS_EMPTY, DIGITS_OTHER_3};
+use crate::figures::{DIGITS_1, DIGITS_3, DIGITS_6, DIGITS_OTHER_3};
 use crate::marks::{Digits, are_told, is_window};
 use crate::reach::{reach_one, reach_other};
 use crate::summaries::{All, Figures, is_told};

@@ -67,7 +67,7 @@ pub fn multiply(a: u32, b: u32) -> Residue
     reduced(a as u64 * b as u64)
 }
 
-/// The row (a, b) times the column (e, g), a * e + b * g, reduced once.
+/// The row (a, b) times the column (e, g), a * e + b * g, reduced once. Takes constant time.
 pub fn dot(a: Residue, b: Residue, e: Residue, g: Residue) -> Residue
     ensures { result.n ≡ row_by_column a.n b.n e.n g.n }
 {
@@ -75,7 +75,7 @@ pub fn dot(a: Residue, b: Residue, e: Residue, g: Residue) -> Residue
 }
 
 /// The row (a, b) times the column (e, g), of any numbers. Each product is folded before they are added, so that the sum
-/// fits.
+/// fits. Takes constant time.
 pub fn dot_any(a: u32, b: u32, e: u32, g: u32) -> Residue
     ensures { result.n ≡ row_by_column a b e g }
 {

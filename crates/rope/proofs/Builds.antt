@@ -9,7 +9,7 @@ use Rattle.rope.specs.declared.record.Origin.{Origin}
 use Rattle.rope.specs.declared.record.Origin.TheVariants.{Build, Added}
 use Rattle.rope.specs.declared.store.Store.{Store}
 use Rattle.rope.proofs.Pushes.{length_part}
-use Rattle.rope.proofs.Keeping.{takes_trans, takes_within, free_after, source_keeps}
+use Rattle.rope.proofs.Keeping.{takes_trans, takes_within, free_after, origin_keeps}
 use Rattle.rope.proofs.Knows.{Knows, Near, known, knows_after, pairs_of, knows_pushed}
 use Rattle.rope.proofs.Levels.{Level, level_left, level_right, level_next, half_leaves, part_split}
 
@@ -48,15 +48,15 @@ module _ {V R : Type 0} {kind : _} (s : Store V R kind) (origin : Origin) (start
         }
 
     module _ {s1 : Store V R kind} {l : ℕ} (p : Built s s1 l origin start (half n)) where
-      same_source : origin_text (arena_of s1) origin ≡ origin_text (arena_of s) origin
-      same_source = source_keeps p.takes origin
+      same_origin : origin_text (arena_of s1) origin ≡ origin_text (arena_of s) origin
+      same_origin = origin_keeps p.takes origin
 
       pub build_right : Buildable s1 origin (start + half n) (n - half n)
       build_right =
           record {
             free = free_after (2 * leaves (n - half n)) (2 * leaves n) (omega (arith, (half_leaves n big).0, (half_leaves n big).1)) b.free p.takes;
             some = omega (arith, (half_leaves n big).2);
-            within = omega (arith, ap length same_source, b.within, (half_leaves n big).2);
+            within = omega (arith, ap length same_origin, b.within, (half_leaves n big).2);
           }
 
       module _ {s2 : Store V R kind} {r : ℕ} (q : Built s1 s2 r origin (start + half n) (n - half n)) where
@@ -67,7 +67,7 @@ module _ {V R : Type 0} {kind : _} (s : Store V R kind) (origin : Origin) (start
         right_level = subst (Level (height (tree_of s2 r))) (half_leaves n big).1 (record { high = q.high; low = q.low })
 
         right_text : text (tree_of s2 r) ≡ part (arena_of s) origin (start + half n) (n - half n)
-        right_text = q.text_is ∙ ap (λ xs. take (n - half n) (drop (start + half n) xs)) same_source
+        right_text = q.text_is ∙ ap (λ xs. take (n - half n) (drop (start + half n) xs)) same_origin
 
         left_size : size (tree_of s1 l) ≡ half n
         left_size = ap length p.text_is ∙ length_part (origin_text (arena_of s) origin) start (half n) (omega (arith, b.within, (half_leaves n big).2))

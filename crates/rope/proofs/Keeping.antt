@@ -88,8 +88,8 @@ module _ {V R : Type 0} {kind : _} where
       ∙ get_or_append_left (forest (arena_of s)) rest (leaf []) i (omega (arith, forest_length s))
 
   -- both texts stay
-  pub source_keeps : {s t : Store V R kind} {n : ℕ} → Takes s t n → (origin : Origin) → origin_text (arena_of t) origin ≡ origin_text (arena_of s) origin
-  source_keeps {s} {t} p origin =
+  pub origin_keeps : {s t : Store V R kind} {n : ℕ} → Takes s t n → (origin : Origin) → origin_text (arena_of t) origin ≡ origin_text (arena_of s) origin
+  origin_keeps {s} {t} p origin =
       let same : (arena_of t).added ≡ (arena_of s).added = ap (λ i. take i t.added.memory.now) p.added ∙ p.keeps.added.before in
       ap (λ b. origin_of b (arena_of t).added origin) p.keeps.build ∙ ap (λ x. origin_of s.build.now x origin) same
 

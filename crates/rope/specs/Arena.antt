@@ -18,7 +18,7 @@ pub record Arena (R : Type 0) : Type 0 where
 abbrev pub arena : {R : Type 0} → List ℕ → List ℕ → List (Record R) → Arena R
 arena build added records = record { build = build; added = added; records = records }
 
--- the text that a origin names
+-- the text that an origin names
 abbrev pub origin_of : List ℕ → List ℕ → Origin → List ℕ
 origin_of build added Build = build
 origin_of build added Added = added

@@ -10,16 +10,16 @@ use Rattle.rope.specs.declared.store.Store.{Store}
 use Rattle.rope.proofs.Keeping.{takes_none, takes_trans, takes_within, free_after, free_less}
 use Rattle.rope.proofs.Knows.{Knows, known, knows_after}
 use Rattle.rope.proofs.Readings.{splits_size, splits_high}
-use Rattle.rope_join.specs.Joins.{apart, Joinable, Joined}
+use Rattle.rope_join.specs.Joins.{apart, join_cost, Joinable, Joined}
 use Rattle.rope_join.proofs.Steps.{joinable_of, joined_known}
 use Rattle.rope_join.proofs.Trees.{apart_swap}
 use Rattle.rope_cut.specs.Parts.{Partable, Parted, part_cost}
 
 -- a part x of one child c, joined with the other child k, takes no more than the result y allows
-pub rejoin_cost : (h c k x y : ℕ) → h ≡ max c k + 1 → c ≤ k + 1 → k ≤ c + 1 → x ≤ c → max k x ≤ y → part_cost c x + (3 * ((k - x) + (x - k) - 1) + 1) ≤ part_cost h y
+pub rejoin_cost : (h c k x y : ℕ) → h ≡ max c k + 1 → c ≤ k + 1 → k ≤ c + 1 → x ≤ c → max k x ≤ y → part_cost c x + join_cost k x ≤ part_cost h y
 rejoin_cost h c k x y e p q low least = omega arith
 
-rejoin_room : (h c k x : ℕ) → h ≡ max c k + 1 → c ≤ k + 1 → k ≤ c + 1 → x ≤ c → part_cost c x + (3 * ((k - x) + (x - k) - 1) + 1) ≤ 4 * h + 1
+rejoin_room : (h c k x : ℕ) → h ≡ max c k + 1 → c ≤ k + 1 → k ≤ c + 1 → x ≤ c → part_cost c x + join_cost k x ≤ 4 * h + 1
 rejoin_room h c k x e p q low = omega arith
 
 rejoin_low : (h c k x y : ℕ) → h ≡ max c k + 1 → x ≤ c → y ≤ max k x + 1 → y ≤ h

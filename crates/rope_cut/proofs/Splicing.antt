@@ -1,7 +1,7 @@
 -- The steps of a splice that goes down to a child.
-use Rattle.std.proofs.Common.{◌≡◌, ℕ, ◌+◌, ◌-◌, ◌*◌, ◌^◌, ◌<◌, ◌≤◌, max, List, ◌++◌, length, take, drop, sym, ap, ◌∙◌, append_assoc, arith, length-append, length-drop, Some}
+use Rattle.std.proofs.Common.{◌≡◌, ℕ, ◌+◌, ◌-◌, ◌^◌, ◌<◌, ◌≤◌, max, List, ◌++◌, length, take, drop, sym, ap, ◌∙◌, append_assoc, arith, length-append, length-drop, Some}
 use lib.Seq.{take-append-le, take-append-add, drop-append-add}
-use Rattle.std.proofs.lemmas.List.{length-take-le, drop-append-le}
+use Rattle.std.proofs.lemmas.List.{length-take, drop-append-le}
 use Rattle.std.proofs.lemmas.Bool.{ltb-true, lt-ltb}
 use Rattle.rope.specs.Tree.{Tree, text, size, height}
 use Rattle.rope.specs.Arena.{Splits, Root}
@@ -10,6 +10,7 @@ use Rattle.rope.specs.declared.store.Store.{Store}
 use Rattle.rope.proofs.Keeping.{takes_trans, takes_within, free_after}
 use Rattle.rope.proofs.Readings.{splits_size, splits_high}
 use Rattle.rope.specs.Edits.{spliced}
+use Rattle.rope_join.specs.Joins.{join_cost}
 use Rattle.rope_cut.specs.Parts.{Rooted, Makes, Spliceable, text_in, height_in, higher, join_cost_in, splice_cost, edit_need}
 use Rattle.rope_cut.proofs.Roots.{Stays, root_stays}
 
@@ -22,10 +23,10 @@ pub record Levels (h c k o : ℕ) : Type 0 where
 
 -- the child becomes x high, and its join with the other child y
 module _ {h c k o : ℕ} (l : Levels h c k o) (x : ℕ) (low : x ≤ max c o + 2) where
-  pub resplice_room : splice_cost (max c o) x + (3 * ((x - k) + (k - x) - 1) + 1) ≤ edit_need (max h o)
+  pub resplice_room : splice_cost (max c o) x + join_cost x k ≤ edit_need (max h o)
   resplice_room = omega arith
 
-  pub resplice_cost : (y : ℕ) → max x k ≤ y → splice_cost (max c o) x + (3 * ((x - k) + (k - x) - 1) + 1) ≤ splice_cost (max h o) y
+  pub resplice_cost : (y : ℕ) → max x k ≤ y → splice_cost (max c o) x + join_cost x k ≤ splice_cost (max h o) y
   resplice_cost y least = omega arith
 
   pub resplice_low : (y : ℕ) → y ≤ max x k + 1 → y ≤ max h o + 2
@@ -33,14 +34,14 @@ module _ {h c k o : ℕ} (l : Levels h c k o) (x : ℕ) (low : x ≤ max c o + 2
 
 -- a part within the left text, and one within the right text
 splice_left : (a b : ℕ) (xs ys zs : List ℕ) → a ≤ b → b ≤ length xs
-    → (take a xs ++ (zs ++ drop b xs)) ++ ys ≡ take a (xs ++ ys) ++ (zs ++ drop b (xs ++ ys))
+    → spliced xs a b zs ++ ys ≡ spliced (xs ++ ys) a b zs
 splice_left a b xs ys zs ordered within =
     let before = take-append-le a xs ys (omega arith) in
     let behind = drop-append-le b xs ys within in
     simp append_assoc (cc)
 
 splice_right : (a b n : ℕ) (xs ys zs : List ℕ) → n ≡ length xs → n ≤ a → a ≤ b
-    → xs ++ (take (a - n) ys ++ (zs ++ drop (b - n) ys)) ≡ take a (xs ++ ys) ++ (zs ++ drop b (xs ++ ys))
+    → xs ++ spliced ys (a - n) (b - n) zs ≡ spliced (xs ++ ys) a b zs
 splice_right a b n xs ys zs long past ordered =
     let from : length xs + (a - n) ≡ a = omega arith in
     let to : length xs + (b - n) ≡ b = omega arith in
@@ -49,10 +50,9 @@ splice_right a b n xs ys zs long past ordered =
     let grouped = append_assoc xs (take (a - n) ys) (zs ++ drop (b - n) ys) in
     cc
 
-length_spliced : (a b : ℕ) (xs zs : List ℕ) → a ≤ b → b ≤ length xs → length (take a xs ++ (zs ++ drop b xs)) ≡ length xs - (b - a) + length zs
-length_spliced a b xs zs ordered within =
-    let before = length-take-le a xs (omega arith) in
-    simp (length-append, length-drop) (omega arith)
+-- the length of a spliced text
+pub length_spliced : (xs zs : List ℕ) (a b : ℕ) → a ≤ b → b ≤ length xs → length (spliced xs a b zs) ≡ length xs - (b - a) + length zs
+length_spliced xs zs a b ordered within = simp (length-append, length-take, length-drop) (omega arith)
 
 module _ {V R : Type 0} {kind : _} {s : Store V R kind} {i l r a b : ℕ} {q : Root} (h : Spliceable s (Some i) a b q) (e : Splits (arena_of s) i l r) where
   below : i < s.records.used
@@ -65,7 +65,7 @@ module _ {V R : Type 0} {kind : _} {s : Store V R kind} {i l r a b : ℕ} {q : R
     right_kept = root_stays y.takes.keeps (Some r) (lt-ltb r s.records.used (omega (arith, below, e.right)))
 
     left_size : length (text_in s1 x) ≡ size (tree_of s l) - (b - a) + length (text_in s q)
-    left_size = ap length y.text_is ∙ length_spliced a b (text (tree_of s l)) (text_in s q) h.part.0 within
+    left_size = ap length y.text_is ∙ length_spliced (text (tree_of s l)) (text_in s q) a b h.part.0 within
 
     left_levels : Levels (height (tree_of s i)) (height (tree_of s l)) (height_in s1 (Some r)) (height_in s q)
     left_levels =
@@ -94,8 +94,8 @@ module _ {V R : Type 0} {kind : _} {s : Store V R kind} {i l r a b : ℕ} {q : R
         record {
           takes = takes_within _ (resplice_cost left_levels (height_in s1 x) y.low (height_in s2 z) least) (takes_trans y.takes j.takes);
           root = j.root;
-          text_is = j.text_is ∙ ap (λ t. t ++ text_in s1 (Some r)) y.text_is ∙ ap (λ t. (take a tl ++ (tq ++ drop b tl)) ++ t) right_kept.text_is
-              ∙ splice_left a b tl tr tq h.part.0 within ∙ ap (λ (t : Tree). take a (text t) ++ (tq ++ drop b (text t))) (sym e.tree);
+          text_is = j.text_is ∙ ap (λ t. t ++ text_in s1 (Some r)) y.text_is ∙ ap (λ t. spliced tl a b tq ++ t) right_kept.text_is
+              ∙ splice_left a b tl tr tq h.part.0 within ∙ ap (λ (t : Tree). spliced (text t) a b tq) (sym e.tree);
           low = resplice_low left_levels (height_in s1 x) y.low (height_in s2 z) j.low;
         }
 
@@ -107,7 +107,7 @@ module _ {V R : Type 0} {kind : _} {s : Store V R kind} {i l r a b : ℕ} {q : R
 
     right_size : length (text_in s1 x) ≡ size (tree_of s r) - (b - n - (a - n)) + length (text_in s q)
     right_size =
-        ap length y.text_is ∙ length_spliced (a - n) (b - n) (text (tree_of s r)) (text_in s q) (omega (arith, h.part.0)) (omega (arith, h.part.1, splits_size e))
+        ap length y.text_is ∙ length_spliced (text (tree_of s r)) (text_in s q) (a - n) (b - n) (omega (arith, h.part.0)) (omega (arith, h.part.1, splits_size e))
 
     right_levels : Levels (height (tree_of s i)) (height (tree_of s r)) (height_in s1 (Some l)) (height_in s q)
     right_levels =
@@ -141,6 +141,6 @@ module _ {V R : Type 0} {kind : _} {s : Store V R kind} {i l r a b : ℕ} {q : R
           takes = takes_within _ (omega (arith, swapped, resplice_cost right_levels (height_in s1 x) y.low (height_in s2 z) (omega (arith, least)))) (takes_trans y.takes j.takes);
           root = j.root;
           text_is = j.text_is ∙ ap (λ t. t ++ text_in s1 x) left_kept.text_is ∙ ap (λ t. tl ++ t) y.text_is
-              ∙ splice_right a b n tl tr tq long past h.part.0 ∙ ap (λ (t : Tree). take a (text t) ++ (tq ++ drop b (text t))) (sym e.tree);
+              ∙ splice_right a b n tl tr tq long past h.part.0 ∙ ap (λ (t : Tree). spliced (text t) a b tq) (sym e.tree);
           low = resplice_low right_levels (height_in s1 x) y.low (height_in s2 z) (omega (arith, j.low));
         }

@@ -18,7 +18,7 @@ use Rattle.shelf_view.specs.Questions.{of_document}
 use Rattle.shelf_view.specs.State.{Shelved, state_of, text_at, unknown}
 use Rattle.shelf_view.proofs.Marking.{first_half}
 use Rattle.shelf_view.proofs.Placing.{document_text}
-use Rattle.script.specs.declared.answer.TheConstants.{MOST_TOLD}
+use Rattle.script.specs.declared.limits.TheConstants.{MOST_TOLD}
 use Rattle.script.specs.Answers.{WritesSaid, said_to_mark, said_to_text}
 
 module _ {kind : _} {s : Shelved (Pair Entries LineColumn)} {d : ℕ} {w : Whole (Pair Sl2 LineColumn) (Pair Entries LineColumn) kind} (there : of_document (state_of s) d ≡ None) (is : IsDocument marked s d w) where

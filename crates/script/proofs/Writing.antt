@@ -8,7 +8,7 @@ use Rattle.refusal.specs.Writing.{Stands, Writes}
 use Rattle.netstring.specs.Netstring.{netstring}
 use Rattle.refusal.specs.Refusals.{number_of}
 use Rattle.refusal.specs.declared.Refusal.{Refusal}
-use Rattle.script.specs.declared.answer.TheConstants.{MOST_TOLD}
+use Rattle.script.specs.declared.limits.TheConstants.{MOST_TOLD}
 use Rattle.script.specs.Answers.{worded}
 
 -- a number has at most twenty digits

@@ -17,7 +17,7 @@ use Rattle.text_shelf.specs.declared.call.Call.TheVariants as on_shelf
 use Rattle.text_shelf.specs.declared.shelf.Shelf.{Shelf}
 use Rattle.script.specs.Commands.{ReadAt}
 use Rattle.script.specs.declared.command.Command.{Command}
-use Rattle.script.specs.declared.answer.TheConstants.{MOST_ANSWER, MOST_TOLD}
+use Rattle.script.specs.declared.limits.TheConstants.{MOST_ANSWER, MOST_TOLD}
 use Rattle.script.specs.declared.run.Answered.{Answered}
 use Rattle.script.specs.declared.command.Command.TheVariants.{Put, Cut, Splice, Mark, Text}
 

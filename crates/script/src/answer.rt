@@ -4,23 +4,11 @@ ghost use Rattle.refusal.specs.Writing.{Stands};
 ghost use Rattle.netstring.specs.Netstring.{netstring};
 ghost use Rattle.rope_read.specs.Texts.{bytes_in};
 ghost use Rattle.script.specs.Answers.{answer_text};
-ghost use Rattle.script.specs.declared.answer.TheConstants.{MOST_ANSWER, MOST_TOLD};
+ghost use Rattle.script.specs.declared.limits.TheConstants.{MOST_ANSWER};
 
 use monoid::Monoid;
 use refusal::{Refusal, write_start};
 use rope_read::text::Text;
-
-/// So many bytes hold every answer: the netstring of the longest text that is told.
-pub const MOST_ANSWER: usize = 4_102;
-
-/// The longest text that is told.
-pub const MOST_TOLD: usize = 4_096;
-
-/// Tells the limits as numbers, which the contracts name by their constants. It does nothing.
-pub fn limits_stand()
-    ensures answer { MOST_ANSWER ≡ 4102 }
-    ensures told { MOST_TOLD ≡ 4096 }
-{}
 
 /// Writes `bytes` behind the first `at` bytes of `out`, and tells the place behind it.
 pub(crate) fn append(bytes: &[u8], at: usize, out: &mut [u8]) -> usize

@@ -5,13 +5,12 @@ ghost use Rattle.refusal.specs.Writing.{Stands};
 ghost use Rattle.text_shelf.specs.Shelves.{parts, strings};
 ghost use Rattle.refusal.specs.declared.Refusal.{Refusal};
 ghost use Rattle.refusal.specs.declared.Refusal.TheVariants.{SmallBuffer};
-ghost use Rattle.script.specs.declared.answer.TheConstants.{MOST_ANSWER};
+ghost use Rattle.script.specs.declared.limits.TheConstants.{MOST_ANSWER};
 ghost use Rattle.script.specs.Answers.{Turn, Ran, RanInto, RanAll, Says, WritesSaid, number_said, said_to_mark, said_to_text};
 
-use crate::answer::{
-    MOST_ANSWER, MOST_TOLD, append, append_text, begin, write_digits, write_number, write_refusal,
-};
+use crate::answer::{append, append_text, begin, write_digits, write_number, write_refusal};
 use crate::command::Command;
+use crate::limits::{MOST_ANSWER, MOST_TOLD};
 use crate::read::{Reading, read};
 use crate::writer::write_whole;
 use refusal::Refusal;

@@ -2,7 +2,7 @@
 use monoid::Monoid;
 use refusal::Refusal;
 use rope::record::Record;
-use script::answer::MOST_ANSWER;
+use script::limits::MOST_ANSWER;
 use script::run::{Answered, run, run_all, run_into};
 use shelf_view::marked::Marked;
 use std::alloc::Global;

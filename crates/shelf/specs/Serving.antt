@@ -2,7 +2,7 @@
 use Rattle.std.specs.Prelude.{◌≡◌, ℕ, List, ◌⊎◌, take, Ok, Err, Option, Result, IfSome}
 use Rattle.script.specs.Answers.{RanAll}
 use Rattle.text_shelf.specs.declared.shelf.Shelf.{Shelf}
-use Rattle.shelf.specs.declared.serve.TheConstants.{MOST_SCRIPT}
+use Rattle.script.specs.declared.limits.TheConstants.{MOST_SCRIPT}
 
 -- a reader's script is run: the first MOST_SCRIPT of the bytes that it had, where it tells them
 abbrev pub RanFrom : {V R : Type 0} {kind : _} {E : Type 0}

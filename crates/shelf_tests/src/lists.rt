@@ -5,7 +5,6 @@ use refusal::Refusal;
 use rope::record::Record;
 use shelf_view::draft_id::DraftId;
 use std::process::Abort;
-use std::test::Fail;
 use text_shelf::call::{Answer, Call};
 use text_shelf::draft::Draft;
 use text_shelf::named::PlainShelf;

@@ -1,7 +1,8 @@
 -- Why an edit is refused, from what the view tells.
-use Rattle.std.proofs.Common.{◌≡◌, ℕ, ◌+◌, ◌-◌, ◌≤◌, max, false, List, [], ◌∷◌, ◌++◌, length, get_or, Some, None, Option, sym, ap, ◌∙◌, arith, length-append, length-drop, length-take}
+use Rattle.std.proofs.Common.{◌≡◌, ℕ, ◌+◌, ◌-◌, ◌≤◌, max, false, [], ◌∷◌, ◌++◌, length, get_or, Some, None, Option, sym, ap, ◌∙◌}
 use Rattle.rope.specs.Edits.{spliced}
 use Rattle.rope_cut.specs.Parts.{edit_need}
+use Rattle.rope_cut.proofs.Splicing.{length_spliced}
 use Rattle.refusal.specs.Refusals.{Reasons, first}
 use Rattle.rope_read.specs.Texts.{bad_part}
 use Rattle.shelf_view.specs.State.{Shelved, state_of, unknown, text_at}
@@ -71,10 +72,7 @@ module _ {R : Type 0} (b : Brought) (t : Measures) (v s : Shelved R) (same : v �
               let top = high ∙ (λ i. max (left i) (right i)) in
               past_two ∙ first_then parted last (part_alone None part) ∙ sym (λ i. first (new_document (long i) (edit_need (top i)) b t (state_of s))) ∙ decided
 
--- the length of a spliced text
-pub length_spliced : (d e : List ℕ) (x y : ℕ) → x ≤ y → y ≤ length d → length (spliced d x y e) ≡ length d - (y - x) + length e
-length_spliced d e x y h k = simp (length-append, length-take, length-drop) (omega arith)
-
+-- the length of a spliced document, by the lengths of those that it is made of
 pub told_spliced : {R : Type 0} (v s : Shelved R) → v ≡ s → (d e x y n k : ℕ) → n ≡ length (text_at (state_of v) d) → k ≡ length (text_at (state_of v) e)
     → x ≤ y → y ≤ length (text_at (state_of v) d) → n - (y - x) + k ≡ length (spliced (text_at (state_of s) d) x y (text_at (state_of s) e))
 told_spliced v s same d e x y n k en ek h l =

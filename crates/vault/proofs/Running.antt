@@ -7,7 +7,7 @@ use Rattle.script.specs.Answers.{RanInto}
 use Rattle.script.specs.declared.run.Answered.{Answered}
 use Rattle.vault.specs.Boundary.{Starts, Runs}
 use Rattle.vault.specs.declared.calls.Desk.{Desk}
-use Rattle.vault.specs.declared.calls.TheConstants.{MOST_SCRIPT}
+use Rattle.script.specs.declared.limits.TheConstants.{MOST_SCRIPT}
 
 pub runs : (script old new : List ℕ) (fresh left : Desk) (r : Result Answered Refusal) → length script ≤ MOST_SCRIPT → Starts fresh.shelf → RanInto script 0 fresh.shelf old left.shelf new r → Runs script old new r
 runs script old new fresh left (Ok r) short starts h = (

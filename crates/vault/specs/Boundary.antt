@@ -10,12 +10,11 @@ use Rattle.refusal.specs.declared.Refusal.TheVariants.{BadPart, TooLong, SmallBu
 use Rattle.text_shelf.specs.Shelves.{parts, Fresh}
 use Rattle.text_shelf.specs.declared.shelf.Shelf.{Shelf}
 use Rattle.script.specs.Answers.{TurnsIn}
-use Rattle.script.specs.declared.answer.TheConstants.{MOST_ANSWER}
 use Rattle.script.specs.declared.run.Answered.{Answered}
 use Rattle.vault.specs.declared.answer.VaultAnswer.{VaultAnswer}
 use Rattle.vault.specs.declared.answer.VaultRun.{VaultRun}
 use Rattle.vault.specs.declared.calls.Desk.{Desk}
-use Rattle.vault.specs.declared.calls.TheConstants.{MOST_SCRIPT, ADDED, RECORDS, PLACES}
+use Rattle.script.specs.declared.limits.TheConstants.{MOST_ANSWER, MOST_SCRIPT, ADDED, RECORDS, PLACES}
 
 -- NUMBERS
 

@@ -1,42 +1,22 @@
 //! The calls.
-ghost use Rattle.std.specs.Prelude.{◌≡◌, length};
+ghost use Rattle.std.specs.Prelude.{length};
 ghost use Rattle.zemor.specs.Values.{row};
 ghost use Rattle.zemor.specs.Written.{bytes_of};
 ghost use Rattle.refusal.specs.Writing.{Writes, of_room};
 ghost use Rattle.shelf_view.specs.Marked.{fingerprint as fingerprint_of, written, in_part, ReadsBack};
-ghost use Rattle.vault.specs.declared.calls.TheConstants.{MOST_SCRIPT, RECORDS, ADDED, PLACES};
 ghost use Rattle.vault.specs.Boundary.{Crosses, RunCrosses, of_read_back, Runs};
 
 use crate::answer::{VaultAnswer, VaultRun};
 use monoid::Monoid;
 use refusal::{Refusal, write_start};
 use rope::record::Record;
+use script::limits::{ADDED, MOST_SCRIPT, PLACES, RECORDS};
 use script::run::{Answered, run_into};
 use shelf_view::marked::Marked;
 use shelf_view::window::read_between;
 use text_shelf::named::MarkedShelf;
 use text_shelf::shelf::Shelf;
 use zemor::text::fingerprint;
-
-/// The longest script that is run.
-const MOST_SCRIPT: usize = 16_384;
-
-/// How many records a script's shelf has.
-const RECORDS: usize = 1_024;
-
-/// How many added bytes.
-const ADDED: usize = 16_384;
-
-/// How many places.
-const PLACES: usize = 64;
-
-/// Tells the limits as numbers, which the contracts name by their constants. It does nothing.
-pub fn limits_stand()
-    ensures script { MOST_SCRIPT ≡ 16384 }
-    ensures records { RECORDS ≡ 1024 }
-    ensures added { ADDED ≡ 16384 }
-    ensures places { PLACES ≡ 64 }
-{}
 
 /// Writes the sixteen bytes of a text's fingerprint at the start of `out`. Refused with SMALL BUFFER, and `out` as it was,
 /// exactly where they do not fit. Takes time in the length of the text.

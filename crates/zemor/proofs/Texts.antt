@@ -83,10 +83,10 @@ pub length_text_bits : (w : List ℕ) → length (text_bits w) ≡ 8 * length w
 length_text_bits [] = refl
 length_text_bits (k ∷ w) = let h = length_text_bits w in omega arith
 
--- two products that agree but for a stretch of at most 45 bits are equal only where the stretches are
-stretch : (u w x v : List Bool) → length w ≤ 45 → length x ≤ 45 → product_of (u ++ (w ++ v)) ≡ product_of (u ++ (x ++ v)) → w ≡ x
+-- two products of bits with a slip of at most 45 bits between them are equal only where the slip is none
+slip_shows : (u w x v : List Bool) → length w ≤ 45 → length x ≤ 45 → product_of (u ++ (w ++ v)) ≡ product_of (u ++ (x ++ v)) → w ≡ x
 unfolding product_value
-stretch u w x v hw hx e =
+slip_shows u w x v hw hx e =
     let three : (z : List Bool) → product_of (u ++ (z ++ v)) ≡ times (product_of u) (times (product_of z) (product_of v)) =
     λ z. product_append u (z ++ v) ∙ ap (times (product_of u)) (product_append z v) in
     let inner = cancel sl2 inverse_of lawful inverts (product_value u) (product_value v) (product_value w) (product_value x)
@@ -98,7 +98,7 @@ slips_show s t hs ht slip = (
   λ e.
       let products : product_of (slip.u ++ (slip.w ++ slip.v)) ≡ product_of (slip.u ++ (slip.x ++ slip.v)) =
       ap product_of (sym slip.one_bits) ∙ sym (fold_product s) ∙ ap row e ∙ fold_product t ∙ ap product_of slip.other_bits in
-      let stretches = stretch slip.u slip.w slip.x slip.v slip.w_short slip.x_short products in
-      text_back s t hs ht (slip.one_bits ∙ ap (λ z. slip.u ++ (z ++ slip.v)) stretches ∙ sym slip.other_bits),
+      let none = slip_shows slip.u slip.w slip.x slip.v slip.w_short slip.x_short products in
+      text_back s t hs ht (slip.one_bits ∙ ap (λ z. slip.u ++ (z ++ slip.v)) none ∙ sym slip.other_bits),
   λ e. ap (fold_of sl2) e,
 )

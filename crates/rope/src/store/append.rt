@@ -1,5 +1,5 @@
 //! Added text.
-ghost use Rattle.std.specs.Prelude.{◌+◌, ◌≤◌, length};
+ghost use Rattle.std.specs.Prelude.{length};
 ghost use Rattle.rope.specs.Steps.{Addable, Appended};
 
 use super::Store;

@@ -1,5 +1,4 @@
 //! Calls about drafts.
-ghost use Rattle.std.specs.Prelude.{◌≡◌};
 ghost use Rattle.text_shelf.specs.Steps.{Steps, started, done, sealed, ended, Back};
 ghost use Rattle.text_shelf.specs.declared.call.Call.TheVariants.{Open, Add, Seal, GiveUp};
 

@@ -1,5 +1,5 @@
 //! Windows, from what peeling tells.
-ghost use Rattle.std.specs.Prelude.{◌≡◌, ◌/◌, ◌<◌, ◌≤◌};
+ghost use Rattle.std.specs.Prelude.{◌≡◌, ◌/◌};
 ghost use Rattle.zemor.specs.Bits.{digits_in};
 ghost use Rattle.zemor.specs.Windows.{window_text, ReadBack, Windowed};
 

@@ -1,6 +1,6 @@
 use Rattle.std.proofs.Common.{◌≡◌, ◌-◌, ℕ, List, length}
 use Rattle.std.specs.Io.KnownBytes.{Appends}
-use Rattle.script.specs.declared.answer.TheConstants.{MOST_ANSWER}
+use Rattle.script.specs.declared.limits.TheConstants.{MOST_ANSWER}
 use Rattle.script.specs.Answers.{Turns}
 use Rattle.script.proofs.run.run_all.Given as goal
 

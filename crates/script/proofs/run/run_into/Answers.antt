@@ -1,6 +1,6 @@
 use Rattle.std.proofs.Common.{◌++◌, ◌-◌, ◌≡◌, ◌≤◌, ◌+◌, length, drop, ap, arith, length-append}
 use Rattle.std.proofs.lemmas.List.{length-take, length-drop}
-use Rattle.script.specs.declared.answer.TheConstants.{MOST_ANSWER}
+use Rattle.script.specs.declared.limits.TheConstants.{MOST_ANSWER}
 use Rattle.script.specs.Answers.Turns.{none}
 use Rattle.script.specs.Answers.TurnsIn.{last}
 use Rattle.script.proofs.Turning.{goes_on, ends_within, all_turns}

@@ -3,7 +3,7 @@ use Rattle.std.proofs.lemmas.Result.{err_from_is_err_and}
 use Rattle.std.specs.Option.{option_map}
 use Rattle.script.specs.Answers.{RanAll}
 use Rattle.text_shelf.specs.declared.shelf.Shelf.{Shelf}
-use Rattle.shelf.specs.declared.serve.TheConstants.{MOST_SCRIPT}
+use Rattle.script.specs.declared.limits.TheConstants.{MOST_SCRIPT}
 use Rattle.shelf.specs.Serving.{RanFrom, Served}
 use Rattle.shelf.proofs.serve.serve.Goals as goal
 
