@@ -1,5 +1,6 @@
 //! The summary of a text that comes in chunks.
-ghost use Rattle.std.specs.Prelude.{◌≡◌, ℕ, ◌<◌, List, [], ◌++◌, length, IfOk, IfSome};
+ghost use Rattle.std.specs.Prelude.{◌≡◌, ◌≢◌, ℕ, ◌<◌, List, [], ◌++◌, length, IfOk, IfErr, IfSome};
+ghost use Rattle.std.specs.IoError.{error_kind};
 ghost use Rattle.fingerprint.specs.Streams.{Sums, ReadChunk};
 
 use monoid::Monoid;
@@ -24,7 +25,8 @@ pub struct Stream {
 /// 2^64 − 1 interruptions it gives up with `TimedOut`.
 fn read_some<'t, R: Read>(input: &mut R, buffer: &'t mut [u8]) -> io::Result<&'t [u8]>
     requires { 0 < length buffer.old }
-    ensures { IfOk result (ReadChunk (R.Read.remaining input.old) (R.Read.remaining input.new)) }
+    ensures chunk { IfOk result (ReadChunk (R.Read.remaining input.old) (R.Read.remaining input.new)) }
+    ensures retried { IfErr result (λ e. error_kind e ≢ ErrorKind.Interrupted) }
 {
     for _ in 0..u64::MAX {
         match input.read(buffer) {
@@ -55,9 +57,10 @@ impl Stream {
         self.bytes = self.bytes.saturating_add(chunk.len() as u64);
     }
 
-    /// All that `input` has, read in constant memory. Takes time in its length.
+    /// All that `input` has, read in constant memory. An interrupted read is tried again. Takes time in its length.
     pub fn read<R: Read + Drop>(heap: Global, input: R) -> io::Result<Stream>
-        ensures { IfOk result (λ s. IfSome (R.Read.remaining input) (Sums s)) }
+        ensures sums { IfOk result (λ s. IfSome (R.Read.remaining input) (Sums s)) }
+        ensures retried { IfErr result (λ e. error_kind e ≢ ErrorKind.Interrupted) }
     {
         let mut buffer = vec![in heap; 0; CHUNK]?;
         Stream::read_by(input, &mut buffer)
@@ -67,7 +70,8 @@ impl Stream {
     /// gives up with `TimedOut`.
     fn read_by<R: Read + Drop>(input: R, buffer: &mut [u8]) -> io::Result<Stream>
         requires { 0 < length buffer.old }
-        ensures { IfOk result (λ s. IfSome (R.Read.remaining input) (Sums s)) }
+        ensures sums { IfOk result (λ s. IfSome (R.Read.remaining input) (Sums s)) }
+        ensures retried { IfErr result (λ e. error_kind e ≢ ErrorKind.Interrupted) }
     {
         let mut input = input;
         let mut stream = Stream::new();
