@@ -1,2 +1,3 @@
 pub mod Changes
 pub mod Shown
+pub mod Files

@@ -1,30 +1,34 @@
 //! Files that are read whole.
-ghost use Rattle.std.specs.Prelude.{◌≡◌, ◌≤◌, IfOk, IfSome, length};
-ghost use Rattle.refusal.specs.declared.limits.TheConstants.{MOST_TEXT};
+ghost use Rattle.std.specs.Prelude.{IfOk, IfSome};
+ghost use Rattle.std.specs.Option.{option_map};
+ghost use Rattle.compare.specs.Files.{IsWhole};
 
-use anyhow::{Context, Result, ensure};
+use anyhow::{Context, Result, bail};
 use refusal::limits::MOST_TEXT;
 use std::alloc::Global;
 use std::fs::File;
+use std::io;
 use std::io::Read;
 use std::rt::Files;
 
-/// All that `input` has, where it is no longer than a document.
-fn whole<R: Read + Drop>(heap: Global, input: R) -> Result<Vec<u8>>
-    ensures { IfOk result (λ text. IfSome (R.Read.remaining input) (λ bytes. (text.items ≡ bytes) × (length bytes ≤ MOST_TEXT))) }
+/// All that `input` has, or none of it where it is longer than a document.
+fn whole<R: Read + Drop>(heap: Global, input: R) -> io::Result<Option<Vec<u8>>>
+    ensures { IfOk result (λ text. IfSome (R.Read.remaining input) (IsWhole (option_map (λ v. v.items) text))) }
 {
     let mut text = Vec::new(heap);
     // one byte more tells whether there are too many
     input.take(MOST_TEXT as u64 + 1).read_to_end(&mut text)?;
-    ensure!(
-        text.len() <= MOST_TEXT,
-        "more than {MOST_TEXT} bytes, the most of a document"
-    );
-    Ok(text)
+    if text.len() > MOST_TEXT {
+        return Ok(None);
+    }
+    Ok(Some(text))
 }
 
 /// The text of the file at `path`, where it is no longer than a document.
 pub fn read<R: Files + AllocGlobal>(rt: &R, path: &str) -> Result<Vec<u8>> {
     let file = File::open(rt, path).context(format_args!("opening {path}"))?;
-    whole(rt.alloc(), file).context(format_args!("reading {path}"))
+    match whole(rt.alloc(), file).context(format_args!("reading {path}"))? {
+        Some(text) => Ok(text),
+        None => bail!("{path} has more than {MOST_TEXT} bytes, the most of a document"),
+    }
 }

@@ -113,6 +113,18 @@ pub(crate) fn go_on<'b, 'a, M: Monoid>(
     }
 }
 
+/// The shelf that a list of calls reaches, and the calls that go on behind it.
+fn reach<'b, 'a, M: Monoid>(
+    rt: &impl Abort,
+    lent: Lent<'b, 'a, M::Row>,
+    rows: &[Row],
+    more: &[Row],
+) -> Shelf<'b, 'a, M> {
+    let (mut shelf, draft) = begin(rt, lent, rows);
+    go_on(rt, &mut shelf, draft, more);
+    shelf
+}
+
 /// The one shelf, of mark 7.
 pub(crate) fn reach_one<'a, M: Monoid>(
     rt: &impl Abort,
@@ -127,9 +139,7 @@ pub(crate) fn reach_one<'a, M: Monoid>(
         places,
         mark: 7,
     };
-    let (mut shelf, draft) = begin(rt, lent, &BEGIN);
-    go_on(rt, &mut shelf, draft, &GO_ON);
-    shelf
+    reach(rt, lent, &BEGIN, &GO_ON)
 }
 
 /// The other shelf, of mark 9.
@@ -146,9 +156,7 @@ pub(crate) fn reach_other<'a, M: Monoid>(
         places,
         mark: 9,
     };
-    let (mut shelf, draft) = begin(rt, lent, &OTHER_BEGIN);
-    go_on(rt, &mut shelf, draft, &OTHER_GO_ON);
-    shelf
+    reach(rt, lent, &OTHER_BEGIN, &OTHER_GO_ON)
 }
 
 /// Gives the draft up that is left open, if one is.
