@@ -4,7 +4,7 @@ use Rattle.std.proofs.lemmas.Bool.{and_parts, and_from, cases_lt, leb-true, ltb-
 use Rattle.std.proofs.lemmas.List.{get_or-take, get_or_past}
 use Rattle.monoid.specs.Monoid.{Model, all_bytes}
 use Rattle.rope.specs.Tree.{Tree, leaf, node, text, size, height, lawful}
-use Rattle.rope.specs.Arena.{Arena, shaped, forest, tree_at, origin_text, part, row_in, Sound, Summed, Shows, IsRecord, Splits}
+use Rattle.rope.specs.Arena.{Arena, shaped, forest, tree_at, origin_text, part, row_in, Sound, Summed, Shows, Known, IsRecord, Reads, Splits}
 use Rattle.rope.specs.declared.record.Record.{Record}
 use Rattle.rope.specs.declared.record.Origin.{Origin}
 use Rattle.rope.specs.declared.record.Shape.{Shape}
@@ -79,8 +79,8 @@ module _ {R : Type 0} (a : Arena R) (i : ℕ) where
   pub lawful_at : Sound a → i < length a.records → lawful (tree_at a i) ≡ true
   lawful_at w below = all_lawful_at (forest a) i (leaf []) w.lawful_trees (omega (arith, length_grown a.build a.added [] a.records))
 
-  pub reads : {V : Type 0} (m : Model V R) (w : Sound a) (k : Summed m a) (r : Record R) → i < length a.records → r ≡ get_or a.records i r → IsRecord m a i r
-  reads m w k r below here =
+  pub reads : {V : Type 0} (m : Model V R) (w : Sound a) (r : Record R) → i < length a.records → r ≡ get_or a.records i r → Reads m a i r
+  reads m w r below here =
       let rs = a.records in
       let many : i < length (forest a) = omega (arith, length_grown a.build a.added [] rs) in
       let fair = lawful_at w below in
@@ -92,11 +92,15 @@ module _ {R : Type 0} (a : Arena R) (i : ℕ) where
         lawful_tree = fair;
         long = long;
         high = ap (λ (y : Record R). y.height) here ∙ map_at (λ (y : Record R). y.height) height rs (forest a) i r (leaf []) w.heights many;
-        row = ap (λ (y : Record R). y.row) here ∙ map_at (λ (y : Record R). y.row) (row_in m) rs (forest a) i r (leaf []) k many;
+        row = λ k. ap (λ (y : Record R). y.row) here ∙ map_at (λ (y : Record R). y.row) (row_in m) rs (forest a) i r (leaf []) k many;
         shows = shows_from r.length r.shape fair long shape;
       }
 
-module _ {V R : Type 0} {m : Model V R} {a : Arena R} {i : ℕ} {x : Record R} (d : IsRecord m a i x) where
+-- where summaries are kept, the row is known too
+pub summed_reads : {V R : Type 0} (m : Model V R) {a : Arena R} {i : ℕ} {r : Record R} → Summed m a → Reads m a i r → IsRecord m a i r
+summed_reads m k d = record { is = d.is; lawful_tree = d.lawful_tree; long = d.long; high = d.high; row = d.row k; shows = d.shows }
+
+module _ {R Row : Type 0} {a : Arena R} {i : ℕ} {x : Record R} (d : Known a i x Row) where
   pub splits_of : {l r : ℕ} → x.shape ≡ Inner l r → Splits a i l r
   splits_of {l} {r} is =
       let shows = subst (Shows a i x.length) is d.shows in

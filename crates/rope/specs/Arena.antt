@@ -72,14 +72,22 @@ abbrev pub Shows : {R : Type 0} → Arena R → ℕ → ℕ → Shape → Type 0
 Shows a i n (Leaf origin start) = (start + n ≤ length (origin_text a origin)) × (tree_at a i ≡ leaf (part a origin start n))
 Shows a i n (Inner l r) = (l < i) × (r < i) × (tree_at a i ≡ node (tree_at a l) (tree_at a r))
 
--- what is known of record i, where it is r
-pub record IsRecord {V R : Type 0} (m : Model V R) (a : Arena R) (i : ℕ) (r : Record R) : Type 0 where
+-- what is known of record i, where it is r; Row is what is known of its row
+pub record Known {R : Type 0} (a : Arena R) (i : ℕ) (r : Record R) (Row : Type 0) : Type 0 where
   pub is : r ≡ slice_index_or a.records i r
   pub lawful_tree : lawful (tree_at a i) ≡ true
   pub long : r.length ≡ size (tree_at a i)
   pub high : r.height ≡ height (tree_at a i)
-  pub row : r.row ≡ row_in m (tree_at a i)
+  pub row : Row
   pub shows : Shows a i r.length r.shape
+
+-- record i is r, and r keeps the row of the fold of its text
+abbrev pub IsRecord : {V R : Type 0} → Model V R → Arena R → ℕ → Record R → Type 0
+IsRecord m a i r = Known a i r (r.row ≡ row_in m (tree_at a i))
+
+-- the same, where nothing need be known of the rows
+abbrev pub Reads : {V R : Type 0} → Model V R → Arena R → ℕ → Record R → Type 0
+Reads m a i r = Known a i r (Summed m a → r.row ≡ row_in m (tree_at a i))
 
 -- record i is an inner one over l and r
 pub record Splits {R : Type 0} (a : Arena R) (i l r : ℕ) : Type 0 where

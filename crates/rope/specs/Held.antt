@@ -4,6 +4,7 @@ use Rattle.rope.specs.Arena.{Arena, arena}
 use Rattle.rope.specs.Lents.{Fills}
 use Rattle.rope.specs.declared.lent.Lent.{Lent}
 use Rattle.rope.specs.declared.record.Record.{Record}
+use Rattle.rope.specs.declared.view.View.{View}
 
 -- the items that are held
 abbrev pub held : {X : Type 0} {most : ℕ} → Lent X most → List X
@@ -18,3 +19,7 @@ pub record Gains {X : Type 0} {most : ℕ} (s t : Lent X most) (xs : List X) : T
 -- what is used of a build text, of the memory for added text and of that for records
 abbrev pub arena_in : {R : Type 0} {most_bytes most_records : ℕ} → List ℕ → Lent ℕ most_bytes → Lent (Record R) most_records → Arena R
 arena_in build added records = arena build (held added) (held records)
+
+-- what slices of both texts and of records show
+abbrev pub seen_in : {V R : Type 0} → View V R → Arena R
+seen_in v = arena v.build.now v.added.now v.records.now

@@ -2,9 +2,9 @@
 use Rattle.std.specs.Prelude.{◌≡◌, ℕ, ◌+◌, ◌≤◌, length}
 use Rattle.refusal.specs.declared.limits.TheConstants.{MOST_RECORDS}
 use Rattle.rope.specs.Tree.{Tree}
-use Rattle.rope.specs.Arena.{Arena, arena, tree_at}
+use Rattle.rope.specs.Arena.{Arena, tree_at}
 use Rattle.rope.specs.Lents.{Fills}
-use Rattle.rope.specs.Held.{arena_in}
+use Rattle.rope.specs.Held.{arena_in, seen_in}
 use Rattle.rope.specs.declared.store.Store.{Store}
 use Rattle.rope.specs.declared.view.RopeView.{RopeView}
 
@@ -14,7 +14,7 @@ arena_of s = arena_in s.build.now s.added s.records
 
 -- what a view shows
 abbrev pub seen : {V R : Type 0} {kind : _} → RopeView V R kind → Arena R
-seen v = arena v.build.now v.added.now v.records.now
+seen v = seen_in v.slices
 
 abbrev pub tree_of : {V R : Type 0} {kind : _} → Store V R kind → ℕ → Tree
 tree_of s i = tree_at (arena_of s) i

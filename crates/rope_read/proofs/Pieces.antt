@@ -5,9 +5,8 @@ use lib.Seq.{drop-append-add, take-append-add}
 use Rattle.std.proofs.lemmas.List.{drop-append-le, take_all, drop-drop, take-take, drop_at, take_at, take_rest, drop_all}
 use Rattle.std.proofs.lemmas.Slice.{between_is}
 use Rattle.std.specs.List.{between}
-use Rattle.monoid.specs.Monoid.{Model}
 use Rattle.rope.specs.Tree.{Tree, text, size}
-use Rattle.rope.specs.Arena.{Arena, IsRecord, Splits, tree_at, part, origin_text}
+use Rattle.rope.specs.Arena.{Arena, Known, Splits, tree_at, part, origin_text}
 use Rattle.rope.specs.declared.record.Record.{Record}
 use Rattle.rope.specs.declared.record.Shape.TheVariants.{Leaf}
 use Rattle.rope.specs.declared.record.Origin.{Origin}
@@ -40,7 +39,7 @@ module _ {R : Type 0} {v : Arena R} {i l r : ℕ} (e : Splits v i l r) (a b n : 
   piece_both h k = sym (in_both (text (tree_at v l)) (text (tree_at v r)) a b n long h k) ∙ whole
 
 -- the part of a leaf's text is a part of its origin
-pub piece_part : {V R : Type 0} {m : Model V R} {v : Arena R} {i start : ℕ} {x : Record R} {origin : Origin} → IsRecord m v i x → x.shape ≡ Leaf origin start
+pub piece_part : {R Row : Type 0} {v : Arena R} {i start : ℕ} {x : Record R} {origin : Origin} → Known v i x Row → x.shape ≡ Leaf origin start
     → (a b : ℕ) → b ≤ size (tree_at v i) → part v origin (start + a) (b - a) ≡ between a b (text (tree_at v i))
 piece_part {v} {start} {x} {origin} d is a b within =
     let from = drop start (origin_text v origin) in

@@ -17,7 +17,7 @@ pub struct Text<'v, M: Monoid> {
     root: Root,
     from: u32,
     to: u32,
-    ghost inside: { rooted (length view.records.now) root ≡ true },
+    ghost inside: { rooted (length view.slices.records.now) root ≡ true },
     ghost ordered: { from ≤ to },
     ghost within: { to ≤ length (text_of (seen view) root) },
 }
@@ -52,7 +52,7 @@ impl<'v, M: Monoid> Text<'v, M> {
 
     /// The first `len` bytes of the text at a root.
     pub(crate) fn front(view: RopeView<'v, M>, root: Root, len: u32) -> Text<'v, M>
-        requires root { rooted (length view.records.now) root ≡ true }
+        requires root { rooted (length view.slices.records.now) root ≡ true }
         requires within { len ≤ length (text_of (seen view) root) }
         ensures place { (result.view ≡ view.entry) × (result.root ≡ root) }
         ensures bounds { (result.from ≡ 0) × (result.to ≡ len) }

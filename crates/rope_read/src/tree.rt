@@ -13,7 +13,7 @@ use rope::view::RopeView;
 
 /// The byte at the place `at` of the tree `i`.
 pub(crate) fn byte_at<'v, M: Monoid>(view: RopeView<'v, M>, i: u32, at: u32) -> u8
-    requires below { i < length view.records.now }
+    requires below { i < length view.slices.records.now }
     requires within { at < size (tree_at (seen view) i) }
     ensures { result ≡ slice_index (text (tree_at (seen view.entry) i)) at }
 {
@@ -36,7 +36,7 @@ pub(crate) fn byte_at<'v, M: Monoid>(view: RopeView<'v, M>, i: u32, at: u32) -> 
 
 /// The fold of the part `a` to `b` of the tree `i`. Trees that lie whole in the part are not entered.
 pub(crate) fn fold_at<'v, M: Monoid>(view: RopeView<'v, M>, i: u32, a: u32, b: u32) -> M
-    requires below { i < length view.records.now }
+    requires below { i < length view.slices.records.now }
     requires ordered { a ≤ b }
     requires within { b ≤ size (tree_at (seen view) i) }
     ensures { result ≡ fold_of M.Monoid.model (between a b (text (tree_at (seen view.entry) i))) }
@@ -65,7 +65,7 @@ pub(crate) fn fold_at<'v, M: Monoid>(view: RopeView<'v, M>, i: u32, a: u32, b: u
 
 /// Writes the part `a` to `b` of the tree `i` at the start of `out`.
 pub(crate) fn copy_at<'v, M: Monoid>(view: RopeView<'v, M>, i: u32, a: u32, b: u32, out: &mut [u8])
-    requires below { i < length view.records.now }
+    requires below { i < length view.slices.records.now }
     requires ordered { a ≤ b }
     requires within { b ≤ size (tree_at (seen view) i) }
     requires room { b - a ≤ length out.old }

@@ -15,7 +15,7 @@ use std::alloc::AllocError;
 pub struct Whole<'v, M: Monoid> {
     view: RopeView<'v, M>,
     root: Root,
-    ghost inside: { rooted (length view.records.now) root ≡ true },
+    ghost inside: { rooted (length view.slices.records.now) root ≡ true },
 }
 
 // not derived, as for `RopeView`
@@ -41,8 +41,8 @@ impl<'v, M: Monoid> Whole<'v, M> {
     /// The text at `root`. A root that is none of the records' counts as that of the empty text. Takes constant time.
     pub fn new(view: RopeView<'v, M>, root: Root) -> Whole<'v, M>
         ensures view { result.view ≡ view.entry }
-        ensures there { rooted (length view.entry.records.now) root ≡ true → result.root ≡ root }
-        ensures other { rooted (length view.entry.records.now) root ≡ false → result.root ≡ None }
+        ensures there { rooted (length view.entry.slices.records.now) root ≡ true → result.root ≡ root }
+        ensures other { rooted (length view.entry.slices.records.now) root ≡ false → result.root ≡ None }
     {
         match root {
             Some(i) if (i as usize) < view.records_used() => Whole { view, root },

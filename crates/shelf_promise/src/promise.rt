@@ -42,7 +42,7 @@ pub struct Replies<M> {
 /// Asks, of shelves that any lists of calls have reached, all that is promised of them: a summary and a part's summary, the
 /// fingerprints of two documents, and the window that gives a fingerprint, which is written at the start of `out`. The two
 /// marked shelves may be one. Each question is answered, or refused, as the call of its name in `told`. Takes time in the
-/// heights of the documents of which a part is asked, and in the length of `fingerprint`.
+/// heights of the documents of which a part is asked.
 pub fn ask<'b, 'a, 'c, 'd, 'e, 'f, M: Monoid>(
     shelf: &Shelf<'b, 'a, M>,
     one: &MarkedShelf<'c, 'd>,

@@ -52,7 +52,7 @@ pub fn fingerprints<'b, 'a, 'c, 'd>(
 }
 
 /// The window of at most five bytes that, in the place of the part `a` to `b` of document `d`, gives this fingerprint, as
-/// `View::read_back` tells it. Takes time in the height of the document and the length of `fingerprint`.
+/// `View::read_back` tells it. Takes time in the height of the document.
 pub fn read_back<'b, 'a>(
     shelf: &MarkedShelf<'b, 'a>,
     d: u32,

@@ -1,5 +1,5 @@
 -- Reading a window back.
-use Rattle.std.proofs.Common.{◌≡◌, ℕ, ◌<◌, ◌≤◌, List, [], ◌∷◌, ◌++◌, length, take, drop, Some, None, Ok, Err, Option, Result, unwrap_or, sym, refl, ap, ◌∙◌, subst, arith}
+use Rattle.std.proofs.Common.{◌≡◌, ℕ, ◌<◌, ◌≤◌, List, [], ◌∷◌, ◌++◌, length, take, drop, Some, None, Ok, Err, Option, Result, IfErr, nat_lt, unwrap_or, sym, refl, ap, ◌∙◌, subst, arith}
 use Rattle.std.proofs.lemmas.Bool.Decides.{nat_tests}
 use Rattle.std.proofs.lemmas.Grind.{common_steps}
 use Rattle.monoid.specs.Monoid.{Model, fold_of}
@@ -20,15 +20,15 @@ use Rattle.refusal.proofs.Room.{long_enough}
 use Rattle.rope_read.specs.Texts.{bytes_in, whole_bytes, bad_part, of_bounds, IsSlice}
 use Rattle.std.specs.List.{between}
 use Rattle.rope.specs.Memory.{seen}
-use Rattle.refusal.specs.Refusals.{Answers}
+use Rattle.refusal.specs.Refusals.{Answers, Reasons}
 use Rattle.rope_read.specs.declared.text.Text.{Text}
 use Rattle.rope_read.specs.declared.whole.Whole.{Whole}
 use Rattle.shelf_view.specs.Places.{Lies, IsDocument, IsPart}
 use Rattle.shelf_view.proofs.Placing.{document_text}
-use Rattle.refusal.proofs.Firsts.{passed, first_not}
-use Rattle.shelf_view.specs.Questions.{of_document, of_part}
+use Rattle.refusal.proofs.Firsts.{passed, first_not, first_then}
+use Rattle.shelf_view.specs.Questions.{of_document, of_part, of_copy}
 use Rattle.shelf_view.specs.State.{State, Shelved, state_of, text_at, unknown}
-use Rattle.shelf_view.specs.Marked.{marked, fingerprint, written, in_part, in_between, GivesDigits, earlier, misshapen, none_gives, ReadsBack}
+use Rattle.shelf_view.specs.Marked.{marked, fingerprint, written, in_part, in_between, GivesDigits, earlier, misshapen, none_gives, Unread, ReadsBack}
 use Rattle.refusal.specs.declared.Refusal.{Refusal}
 use Rattle.refusal.specs.declared.Refusal.TheVariants.{NoDocument, BadPart, SmallBuffer}
 use Rattle.shelf_view.proofs.Marking.{first_half}
@@ -52,28 +52,32 @@ module _ (digits : List ℕ) (x front back : Sl2) (is : written x ≡ digits) wh
   by_digits : (w : List ℕ) → window.Gives front back x w → GivesDigits (in_between front back) digits w
   by_digits w g = record { short = g.short; same = ap written g.whole ∙ is }
 
+enough : (n : ℕ) → 5 ≤ n → of_room 5 n ≡ None
+enough n k = grind (arith, common_steps, nat_tests)
+
+-- what is refused before a window is looked for
+pub unread_room : (n : ℕ) (digits : List ℕ) (whole : List ℕ → Sl2) → n < 5 → Unread (of_room 5 n) whole digits SmallBuffer
+unread_room n digits whole k = earlier (grind (arith, common_steps, nat_tests))
+
+pub unread_form : (n : ℕ) (digits : List ℕ) (r : Result Sl2 Refusal) → 5 ≤ n → ReadHex digits r → IfErr r (λ e. (whole : List ℕ → Sl2) → Unread (of_room 5 n) whole digits e)
+unread_form n digits (Ok x) k h = tt
+unread_form n digits (Err e) k h = λ whole. subst (Unread (of_room 5 n) whole digits) (sym h.0) (misshapen (enough n k) h.1)
+
+pub unread_as : {why other : Option Refusal} {whole : List ℕ → Sl2} {digits : List ℕ} {e : Refusal} → why ≡ other → Unread why whole digits e → Unread other whole digits e
+unread_as {whole} {digits} {e} is u = subst (λ y. Unread y whole digits e) is u
+
 module _ (old digits : List ℕ) (front back : Sl2) where
-  pub refused_buffer : length old < 5 → ReadsBack (of_room 5 (length old)) (in_between front back) digits old old (Err SmallBuffer)
-  refused_buffer k = (earlier (grind (arith, common_steps, nat_tests)), refl)
-
-  enough : 5 ≤ length old → of_room 5 (length old) ≡ None
-  enough k = grind (arith, common_steps, nat_tests)
-
   module _ (k : 5 ≤ length old) where
-    pub refused_form : (e : Refusal) → ReadHex digits (Err e) → ReadsBack (of_room 5 (length old)) (in_between front back) digits old old (Err e)
-    refused_form e r =
-        subst (λ z. ReadsBack (of_room 5 (length old)) (in_between front back) digits old old (Err z)) (sym r.0) (misshapen (enough k) r.1, refl)
-
     module _ (x : Sl2) (r : ReadHex digits (Ok x)) where
       pub refused_window : (e : Refusal) → ReadBack front back x (Err e) → ReadsBack (of_room 5 (length old)) (in_between front back) digits old old (Err e)
       refused_window e none =
           subst (λ z. ReadsBack (of_room 5 (length old)) (in_between front back) digits old old (Err z)) (sym none.0)
-          (none_gives (enough k) r.0 (λ w g. none.1 w (by_value digits x front back r.2 w g)), refl)
+          (none_gives (enough (length old) k) r.0 (λ w g. none.1 w (by_value digits x front back r.2 w g)), refl)
 
       pub told : (w : Window) (text new : List ℕ) (o : Result ℕ Refusal) → ReadBack front back x (Ok w) → text ≡ window_text w
           → Writes (of_room (length text) (length old)) text old new o → ReadsBack (of_room 5 (length old)) (in_between front back) digits old new o
       told w text new (Ok m) some is h = (
-        enough k,
+        enough (length old) k,
         r.0,
         (
           window_text w,
@@ -106,6 +110,12 @@ pub part_is : (s : State) (d a b : ℕ) (text : List ℕ) → text ≡ text_at s
 part_is s d a b text is h =
     let p = passed (unknown s d) NoDocument [] h in
     first_not NoDocument ((bad_part (text_at s d) a b, BadPart) ∷ []) p.0 ∙ ap (λ t. of_bounds t a b) (sym is)
+
+-- and where the part is there too, the room of a window decides
+pub room_is : (s : State) (d a b n : ℕ) (text : List ℕ) → text ≡ text_at s d → of_document s d ≡ None → of_bounds text a b ≡ None → of_room 5 n ≡ of_copy s d a b 5 n
+room_is s d a b n text is there lies =
+    let part : Reasons = (unknown s d, NoDocument) ∷ (bad_part (text_at s d) a b, BadPart) ∷ [] in
+    sym (first_then part ((nat_lt n 5, SmallBuffer) ∷ []) (part_is s d a b text is there ∙ lies))
 
 -- a part of a document, from its slice
 pub part_told : {V R : Type 0} {kind : _} {m : Model V R} (s : Shelved R) (d a b : ℕ) (w : Whole V R kind) (text : Text V R kind) (r : Result (Text V R kind) Refusal)

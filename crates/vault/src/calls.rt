@@ -38,8 +38,8 @@ pub extern "C" fn vault_fingerprint_digits(text: &[u8], out: &mut [u8]) -> Vault
 
 /// Writes the window of at most five bytes that, in the place of the part `from` to `to` of the text, gives it the
 /// fingerprint with these digits. Refused with BAD PART, then with SMALL BUFFER where `out` is shorter than five bytes, with
-/// BAD FINGERPRINT, and with NO WINDOW exactly where no window gives it; `out` is then as it was. Takes time in the lengths
-/// of the text and of the digits.
+/// BAD FINGERPRINT, and with NO WINDOW exactly where no window gives it; `out` is then as it was. Takes time in the length
+/// of the text.
 #[unsafe(no_mangle)]
 pub extern "C" fn vault_read_back(
     text: &[u8],

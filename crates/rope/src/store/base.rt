@@ -58,6 +58,20 @@ impl<'b, 'a, M: Monoid> Store<'b, 'a, M> {
         self.records.room()
     }
 
+    /// How many bytes of added text are used. Takes constant time.
+    pub fn added(&self) -> usize
+        ensures { result ≡ self.now.added.used }
+    {
+        self.added.as_slice().len()
+    }
+
+    /// How many bytes of added text there is room for, those that are used among them. Takes constant time.
+    pub fn added_room(&self) -> usize
+        ensures { result ≡ min (length self.now.added.memory.now) MOST_BYTES }
+    {
+        self.added() + self.free_bytes()
+    }
+
     /// How many bytes more of added text there is room for. Takes constant time.
     pub fn free_bytes(&self) -> usize
         ensures { result ≡ min (length self.now.added.memory.now) MOST_BYTES - self.now.added.used }

@@ -9,7 +9,7 @@ ghost use Rattle.shelf_view.specs.Marked.{Compares, ComparesIn, ReadsBackIn};
 use super::View;
 use crate::marked::Marked;
 use crate::sameness::Sameness;
-use crate::window::read_between;
+use crate::window::{sought, write_between};
 use refusal::Refusal;
 use rope_read::text::Text;
 
@@ -45,7 +45,7 @@ impl<'v> View<'v, Marked> {
     /// text of `d` the fingerprint that 32 digits write. Writes it at the start of `out` and leaves what lies behind; answers
     /// its length. Refused as `part` is, then with SMALL BUFFER where `out` is shorter than five bytes, with BAD
     /// FINGERPRINT where the digits are not well formed, and with NO WINDOW exactly where no window gives the fingerprint; `out`
-    /// is then as it was. Takes time in the height of the document and the length of `fingerprint`.
+    /// is then as it was. Takes time in the height of the document.
     pub fn read_back(
         &self,
         d: u32,
@@ -57,11 +57,8 @@ impl<'v> View<'v, Marked> {
         ensures { ReadsBackIn (strings_shown self.now) d a b fingerprint.now out.old out.new result }
     {
         let (front, back) = self.document(d)?.text().around(a, b)?;
-        read_between(
-            front.summary().first,
-            fingerprint,
-            back.summary().first,
-            out,
-        )
+        let whole = sought(fingerprint, out)?;
+        let (front, back) = (front.summary().first, back.summary().first);
+        write_between(front, whole, back, out)
     }
 }

@@ -51,7 +51,7 @@ impl Sl2 {
     }
 
     /// The value that a text of 32 lower-case hexadecimal digits writes. Refused with BAD FINGERPRINT exactly where the text
-    /// is not well formed. Takes time in the length of `text`.
+    /// is not well formed. Takes constant time.
     pub fn from_hex(text: &[u8]) -> Result<Sl2, Refusal>
         ensures value { result ≡ ok_or (read_hex text.now) BadFingerprint }
         ensures again { ReadHex text.now result }
@@ -86,16 +86,25 @@ fn read_entries(bytes: &[u8; 16]) -> Entries
     }
 }
 
+/// Whether there is an upper-case letter. It goes through all of the text, so that LLVM tests several letters at once.
 fn has_uppercase(text: &[u8]) -> bool
     ensures { result ≡ list_any is_ascii_uppercase text.now }
 {
-    text.iter().any(|c| c.is_ascii_uppercase())
+    let mut any = false;
+    for c in text {
+        any |= c.is_ascii_uppercase();
+    }
+    any
 }
 
 /// The sixteen bytes that 32 lower-case hexadecimal digits write.
 fn decode(text: &[u8]) -> Result<[u8; 16], Refusal>
     ensures { Decoded text.now result }
 {
+    // before anything that takes time in the length
+    if text.len() != 32 {
+        return Err(Refusal::BadFingerprint);
+    }
     // What `hex` reads may be in upper case too.
     if has_uppercase(text) {
         return Err(Refusal::BadFingerprint);
