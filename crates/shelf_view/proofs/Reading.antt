@@ -66,8 +66,15 @@ unread_form n digits (Err e) k h = λ whole. subst (Unread (of_room 5 n) whole d
 pub unread_as : {why other : Option Refusal} {whole : List ℕ → Sl2} {digits : List ℕ} {e : Refusal} → why ≡ other → Unread why whole digits e → Unread other whole digits e
 unread_as {whole} {digits} {e} is u = subst (λ y. Unread y whole digits e) is u
 
+-- how read-back between fingerprints ends: for want of room, for digits that are not well formed, with no window and with one
 module _ (old digits : List ℕ) (front back : Sl2) where
+  pub refused_buffer : length old < 5 → ReadsBack (of_room 5 (length old)) (in_between front back) digits old old (Err SmallBuffer)
+  refused_buffer k = (unread_room (length old) digits (in_between front back) k, refl)
+
   module _ (k : 5 ≤ length old) where
+    pub refused_form : (e : Refusal) → ReadHex digits (Err e) → ReadsBack (of_room 5 (length old)) (in_between front back) digits old old (Err e)
+    refused_form e r = (unread_form (length old) digits (Err e) k r (in_between front back), refl)
+
     module _ (x : Sl2) (r : ReadHex digits (Ok x)) where
       pub refused_window : (e : Refusal) → ReadBack front back x (Err e) → ReadsBack (of_room 5 (length old)) (in_between front back) digits old old (Err e)
       refused_window e none =
